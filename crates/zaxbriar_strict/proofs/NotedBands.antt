@@ -1,17 +1,19 @@
 -- What is noted of the band of a scan.
 use Rattle.std.proofs.Common.{◌≡◌, ◌≢◌, ℕ, zero, suc, ◌+◌, ◌-◌, ◌<◌, ◌≤◌, ◌==◌, Bool, true, false, true≢false, List, [], ◌∷◌, ◌++◌}
 use Rattle.std.proofs.Common.{length, take, drop, get_or, set, replicate, refl, sym, ap, ap₂, ◌∙◌, subst, arith}
-use Rattle.std.proofs.Common.{append_assoc, length-append, length-drop, take-append-drop, Option, Some, None}
+use Rattle.std.proofs.Common.{append_assoc, length-append, length-drop, length-take, take-append-drop, Option, Some, None}
 use Rattle.std.proofs.Math.Seq.{drop-cons, set-append_seam}
 use Rattle.std.proofs.Common.{eqb, not}
 use Rattle.std.specs.Option.{option_eq}
-use Rattle.std.proofs.lemmas.Bool.{eqb-true, false≢true}
+use Rattle.std.proofs.lemmas.Bool.{eq-eqb, eqb-true, false≢true, ne_eqb}
 use Rattle.std.proofs.lemmas.List.{get_or-drop, length-replicate, length-take-le, replicate-append-replicate, take_more}
 use Rattle.std.specs.List.{AllByRecursion}
 use Rattle.std.specs.Prelude.{if◌then◌else◌}
 use Rattle.jpeg_bits.specs.Passes.{Pass, band_of, with_band}
 use Rattle.jpeg_meaning.specs.Levels.{IsLegal, Levels, sent_after}
-use Rattle.zaxbriar_strict.specs.Progress.{NotesBand, NotesPass, levels_in}
+use Rattle.zaxbriar_strict.specs.Progress.{NotesBand, NotesPass, level_before, levels_in}
+use Rattle.zaxbriar_strict.specs.Sent.{IsBand}
+use Rattle.zaxbriar_strict.specs.Sent.IsBand.{of_acs, of_dc}
 use Rattle.zaxbriar_strict.proofs.Segments.{all-push}
 
 abbrev Lowest : Type 0
@@ -139,6 +141,81 @@ dc-noted false al (x ∷ xs) new some b = record {
   };
   after = ap levels_in b.is;
 }
+
+-- of AC
+pub acs-noted : (first : Bool) (al b se : ℕ) (old new : Lowest) → b < se → se ≤ 63 → length old ≡ 64
+    → get_or old 0 None ≢ None
+    → NotesBand (suc b) (suc se) (before_of first al) al old new
+    → NotesPass (record { is_first = first; ss = suc b; se = se; al = al }) old new
+acs-noted first al b se [] new lt most sized dc n = absurd (omega (arith, sized))
+acs-noted first al b se (x ∷ xs) new lt most sized dc n =
+    let p : Pass = record { is_first = first; ss = suc b; se = se; al = al } in
+    let e : suc b - 1 ≡ b = omega arith in
+    let k : suc se - suc b ≡ se - (suc b - 1) = omega (arith, lt) in
+    let same : take (suc se - suc b) (drop b xs) ≡ band_of p xs =
+    ap₂ (λ (i j : ℕ). take i (drop j xs)) k (sym e) in
+    let was : AllByRecursion (λ y. y ≡ before_of first al) (band_of p xs) =
+    subst (λ (l : Lowest). AllByRecursion (λ (y : Option ℕ). y ≡ before_of first al) l) same n.was in
+    let ne : suc b ≢ 0 = λ z. omega (arith, z) in
+    let j = length-take (se - (suc b - 1)) (drop (suc b - 1) xs) in
+    let m = length-drop (suc b - 1) xs in
+    let size : suc se - suc b ≡ length (band_of p xs) = omega (arith, j, m, e, lt, most, sized) in
+    let end : se ≡ suc b - 1 + (se - (suc b - 1)) = omega (arith, lt) in
+    let level : get_or new 0 None ≡ (if suc b == 0 then Some al else x) =
+    ap (λ (l : Lowest). get_or l 0 None) n.is
+    ∙ sym (ap (λ (t : Bool). if t then Some al else x) (ne_eqb (suc b) 0 ne)) in
+    let levels : drop 1 new ≡ with_band p xs (replicate (length (band_of p xs)) (Some al)) =
+    ap (λ (l : Lowest). drop 1 l) n.is
+    ∙ ap (λ (i : ℕ). take i xs ++ (replicate (suc se - suc b) (Some al) ++ drop se xs)) (sym e)
+    ∙ ap₂ (λ (i j : ℕ). take (suc b - 1) xs ++ (replicate i (Some al) ++ drop j xs)) size end in
+    record {
+      legal = λ low. record {
+        low = low;
+        dc_unsent = λ z f. absurd (ne z);
+        dc_sent = λ z f. absurd (ne z);
+        dc_before = λ z. dc;
+        acs_unsent = λ f. subst (λ (c : Bool). AllByRecursion (λ (y : Option ℕ). y ≡ before_of c al) (band_of p xs)) f was;
+        acs_sent = λ f. subst (λ (c : Bool). AllByRecursion (λ (y : Option ℕ). y ≡ before_of c al) (band_of p xs)) f was;
+      };
+      after = λ i. record { dc = level i; acs = levels i };
+    }
+
+-- of either
+pub pass-noted : (p : Pass) (old new : Lowest) → IsBand p → length old ≡ 64 → (p.ss ≢ 0 → get_or old 0 None ≢ None)
+    → NotesBand p.ss (p.se + 1) (before_of p.is_first p.al) p.al old new → NotesPass p old new
+pass-noted p old new (of_dc s e) sized dc n =
+    let same : record { is_first = p.is_first; ss = 0; se = 0; al = p.al } ≡ p =
+    λ i. record { is_first = p.is_first; ss = sym s i; se = sym e i; al = p.al } in
+    subst (λ (q : Pass). NotesPass q old new) same
+    (dc-noted p.is_first p.al old new (omega (arith, sized))
+    (subst (λ (k : ℕ). NotesBand 0 k (before_of p.is_first p.al) p.al old new)
+    (let k : p.se + 1 ≡ 1 = omega (arith, e) in k)
+    (subst (λ (k : ℕ). NotesBand k (p.se + 1) (before_of p.is_first p.al) p.al old new) s n)))
+pass-noted p old new (of_acs some within most) sized dc n =
+    let b = p.ss - 1 in
+    let s : suc b ≡ p.ss = omega (arith, some) in
+    let e : p.se + 1 ≡ suc p.se = omega arith in
+    let same : record { is_first = p.is_first; ss = suc b; se = p.se; al = p.al } ≡ p =
+    λ i. record { is_first = p.is_first; ss = s i; se = p.se; al = p.al } in
+    subst (λ (q : Pass). NotesPass q old new) same
+    (acs-noted p.is_first p.al b p.se old new (omega (arith, s, within)) most sized
+    (dc (λ z. omega (arith, some, z)))
+    (subst (λ (k : ℕ). NotesBand (suc b) k (before_of p.is_first p.al) p.al old new) e
+    (subst (λ (k : ℕ). NotesBand k (p.se + 1) (before_of p.is_first p.al) p.al old new) (sym s) n)))
+
+pub spans : (p : Pass) → IsBand p → p.ss ≤ p.se
+spans p (of_dc s e) = omega (arith, s, e)
+spans p (of_acs some within most) = within
+
+-- the level before a pass, by its Ah
+pub level-given : (high low : ℕ) → (high ≢ 0 → high ≡ low + 1) → level_before high ≡ before_of (high == 0) low
+level-given high low rule = go (high == 0) refl
+  where
+    go : (c : Bool) → (high == 0) ≡ c → (if c then None else Some high) ≡ before_of c low
+    go true h = refl
+    go false h =
+        let e = rule (λ z. false≢true (sym h ∙ eq-eqb high 0 z)) in
+        ap Some (let k : high ≡ suc low = omega (arith, e) in k)
 
 -- levels that are told to be equal
 pub same-level : (a b : Option ℕ) (ne : Bool) → ne ≡ not (option_eq eqb a b) → ne ≡ false → a ≡ b

@@ -3,7 +3,11 @@ use Rattle.std.proofs.Common.{◌≡◌, ◌≢◌, ℕ, zero, suc, ◌+◌, ◌
 use Rattle.std.proofs.Common.{length, map, set, get_or, take, refl, sym, ap, ◌∙◌, subst, arith}
 use Rattle.std.proofs.lemmas.List.{map-set, take_all, take_more}
 use Rattle.zaxbriar_strict.specs.Heads.{AreUnsent, IsLosslessFrame, IsSameFrame, IsSentOnce, IsSequential, factors_of}
-use Rattle.zaxbriar_strict.specs.Heads.{SendsPart, has_scans, is_progressive_process, members_of, number_of, sent_with}
+use Rattle.zaxbriar_strict.specs.Heads.{SendsPart, has_scans, is_progressive_process, lowest_of, members_of, number_of, pass_in}
+use Rattle.zaxbriar_strict.specs.Heads.{sent_with}
+use Rattle.zaxbriar_strict.specs.Progress.{AreNoted, NotesAt, NotesPass}
+use Rattle.jpeg_bits.specs.Passes.{Pass}
+use Rattle.std.specs.Prelude.{Option, Some, slice_get}
 use Rattle.zaxbriar_strict.specs.Members.{HaveTables, NotesScan, Predicts, SendsAll, most_tables}
 use Rattle.zaxbriar_strict.specs.declared.frame.Component.{Component}
 use Rattle.zaxbriar_strict.specs.declared.frame.Frame.{Frame}
@@ -46,23 +50,46 @@ unsent-at [] i c lt e unsent = absurd (omega arith)
 unsent-at (x ∷ xs) zero c lt e unsent = ap (λ (k : Component). k.has_scan) (sym e) ∙ unsent
 unsent-at (x ∷ xs) (suc i) c lt e unsent = unsent-at xs i c (omega arith) e unsent
 
+-- ---- the lowest bits that were sent
+
+abbrev Lowest : Type 0
+Lowest = List (List (Option ℕ))
+
+noted-push : (p : Pass) (ms : List Member) (m : Member) (a b c : Lowest) → AreNoted p ms a b
+    → NotesAt p m.component b c → AreNoted p (ms ++ m ∷ []) a c
+unfolding AreNoted
+noted-push p [] m a b c n at = (c, (subst (λ (l : Lowest). NotesAt p m.component l c) n at, refl))
+noted-push p (x ∷ xs) m a b c n at = (n.0, (n.1.0, noted-push p xs m n.0 b c n.1.1 at))
+
+noted-none : (p : Pass) (a : Lowest) → AreNoted p [] a a
+unfolding AreNoted
+noted-none p a = refl
+
+lowest-at : (cs : List Component) (i : ℕ) (c : Component) → i < length cs → c ≡ get_or cs i c
+    → slice_get (map (λ (x : Component). x.lowest) cs) i ≡ Some c.lowest
+lowest-at [] i c lt e = absurd (omega (arith, lt))
+lowest-at (x ∷ xs) zero c lt e = ap (λ (k : Component). Some k.lowest) (sym e)
+lowest-at (x ∷ xs) (suc i) c lt e = lowest-at xs i c (omega (arith, lt)) e
+
 -- ---- the components of a scan, one after the other
 
 -- What was noted of the first components of a scan.
-pub record NotesFirst (ms : List Member) (old new : Frame) : Type 0 where
+pub record NotesFirst (s : Scan) (ms : List Member) (old new : Frame) : Type 0 where
   pub same : IsSameFrame old new
   pub unsent : IsSentOnce old → AreUnsent (has_scans old) ms
   pub sent : has_scans new ≡ sent_with ms (has_scans old)
+  pub noted : is_progressive_process old.process ≡ true → AreNoted (pass_in s) ms (lowest_of old) (lowest_of new)
 
-pub none-noted : (f : Frame) → NotesFirst [] f f
-none-noted f = record {
+pub none-noted : (s : Scan) (f : Frame) → NotesFirst s [] f f
+none-noted s f = record {
+  noted = λ e. noted-none (pass_in s) (lowest_of f);
   same = same-none f;
   unsent = λ few. tt;
   sent = sym (none-sent (has_scans f));
 }
 
 -- The component at an index of a frame was noted, and nothing else of the frame.
-pub record NotesOne (i : ℕ) (c next : Component) (old new : Frame) : Type 0 where
+pub record NotesOne (s : Scan) (i : ℕ) (c next : Component) (old new : Frame) : Type 0 where
   pub within : i < length old.components.items
   pub is : c ≡ get_or old.components.items i c
   pub items : new.components.items ≡ set old.components.items i next
@@ -75,10 +102,11 @@ pub record NotesOne (i : ℕ) (c next : Component) (old new : Frame) : Type 0 wh
   pub factors : factors_of next ≡ factors_of c
   pub unsent : number_of old.process ≢ 2 → c.has_scan ≡ false
   pub sent : next.has_scan ≡ true
+  pub noted : is_progressive_process old.process ≡ true → NotesPass (pass_in s) c.lowest next.lowest
 
-pub one-noted : (ms : List Member) (m : Member) (c next : Component) (old middle new : Frame) → NotesFirst ms old middle
-    → NotesOne m.component c next middle new → NotesFirst (ms ++ m ∷ []) old new
-one-noted ms m c next old middle new n o =
+pub one-noted : (s : Scan) (ms : List Member) (m : Member) (c next : Component) (old middle new : Frame) → NotesFirst s ms old middle
+    → NotesOne s m.component c next middle new → NotesFirst s (ms ++ m ∷ []) old new
+one-noted s ms m c next old middle new n o =
     let items = middle.components.items in
     let i = m.component in
     record {
@@ -92,23 +120,30 @@ one-noted ms m c next old middle new n o =
       sent = ap (map (λ (x : Component). x.has_scan)) o.items ∙ map-set (λ (x : Component). x.has_scan) items i next
           ∙ ap (λ (b : Bool). set (has_scans middle) i b) o.sent
           ∙ ap (λ (l : List Bool). set l i true) n.sent ∙ sym (sent-push ms m (has_scans old));
+      noted = λ e. noted-push (pass_in s) ms m (lowest_of old) (lowest_of middle) (lowest_of new) (n.noted e) (record {
+        was = c.lowest;
+        next = next.lowest;
+        at = lowest-at items i c o.within o.is;
+        is = ap (map (λ (x : Component). x.lowest)) o.items ∙ map-set (λ (x : Component). x.lowest) items i next;
+        noted = o.noted (ap is_progressive_process n.same.process ∙ e);
+      });
     }
 
 -- the next component of a list of them
-pub next-noted : (ms : List Member) (place : ℕ) (d : Member) (c next : Component) (old middle new : Frame)
-    → place < length ms → NotesFirst (take place ms) old middle
-    → NotesOne (get_or ms place d).component c next middle new → NotesFirst (take (place + 1) ms) old new
-next-noted ms place d c next old middle new lt n o =
-    subst (λ (l : List Member). NotesFirst l old new) (sym (take_more ms place d lt))
-    (one-noted (take place ms) (get_or ms place d) c next old middle new n o)
+pub next-noted : (s : Scan) (ms : List Member) (place : ℕ) (d : Member) (c next : Component) (old middle new : Frame)
+    → place < length ms → NotesFirst s (take place ms) old middle
+    → NotesOne s (get_or ms place d).component c next middle new → NotesFirst s (take (place + 1) ms) old new
+next-noted s ms place d c next old middle new lt n o =
+    subst (λ (l : List Member). NotesFirst s l old new) (sym (take_more ms place d lt))
+    (one-noted s (take place ms) (get_or ms place d) c next old middle new n o)
 
 -- all of them
 pub all-noted : (s : Scan) (ms : List Member) (place : ℕ) (old new : Frame) → ms ≡ members_of s → length ms ≤ place
-    → NotesFirst (take place ms) old new → HaveTables (most_tables old.process) (members_of s)
+    → NotesFirst s (take place ms) old new → HaveTables (most_tables old.process) (members_of s)
     → (IsSequential old → SendsAll s) → (is_progressive_process old.process ≡ true → SendsPart s)
     → (IsLosslessFrame old → Predicts old.precision s) → NotesScan s old new
 all-noted s ms place old new are end n tables whole part predicted =
-    let all = subst (λ (l : List Member). NotesFirst l old new) (take_all place ms end ∙ are) n in
+    let all = subst (λ (l : List Member). NotesFirst s l old new) (take_all place ms end ∙ are) n in
     record {
       tables = tables;
       whole = whole;
@@ -117,4 +152,5 @@ all-noted s ms place old new are end n tables whole part predicted =
       same = all.same;
       unsent = all.unsent;
       sent = all.sent;
+      noted = all.noted;
     }

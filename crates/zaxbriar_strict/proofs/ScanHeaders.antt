@@ -143,6 +143,7 @@ reads-header bytes s old new t n made = record {
   legal = legal-scan old s bytes new t n made;
   last = λ few. (n.whole few).last;
   part = n.part;
+  noted = n.noted;
   same = n.same;
   unsent = n.unsent;
   sent = n.sent;

@@ -8,6 +8,7 @@ use Rattle.jpeg_segments.specs.ScanHeader.{Selector}
 use Rattle.jpeg_segments.specs.ScanHeaders.{IsScan, ScanHeader, scan_payload}
 use Rattle.jpeg_segments.specs.WrittenSegments.{FrameHeader, IsFrameHeader, frame_payload}
 use Rattle.jpeg_segments.specs.WrittenSegments.{frame_written}
+use Rattle.zaxbriar_strict.specs.Progress.{AreNoted}
 use Rattle.zaxbriar_strict.specs.Sent.{IsBand}
 use Rattle.zaxbriar_strict.specs.declared.frame.Component.{Component}
 use Rattle.zaxbriar_strict.specs.declared.frame.Frame.{Frame}
@@ -153,6 +154,8 @@ pub record ReadsHeader (bytes : List ℕ) (s : Scan) (old new : Frame) : Type 0 
   pub legal : IsSentOnce old → IsScan (written_frame old) (scan_header_of old s)
   pub last : IsSequential old → s.last ≡ 63
   pub part : is_progressive_process old.process ≡ true → SendsPart s
+  pub noted : is_progressive_process old.process ≡ true
+      → AreNoted (pass_in s) (members_of s) (lowest_of old) (lowest_of new)
   pub same : IsSameFrame old new
   -- none of its components has a scan before, and all have one after it
   pub unsent : IsSentOnce old → AreUnsent (has_scans old) (members_of s)

@@ -8,6 +8,7 @@ pub mod Bands
 pub mod Whole
 pub mod Blocks
 pub mod Sent
+pub mod Progress
 pub mod BandCodes
 pub mod Quantizations
 pub mod Heads
@@ -19,7 +20,6 @@ pub mod SentBlocks
 pub mod ScanData
 pub mod ScanSamples
 pub mod SampleRows
-pub mod Progress
 pub mod Kept
 pub mod Exact
 pub mod Walks

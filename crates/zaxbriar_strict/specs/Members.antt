@@ -9,7 +9,9 @@ use Rattle.zaxbriar_strict.specs.Heads.{AreUnsent, IsLosslessFrame, IsSameFrame,
 use Rattle.zaxbriar_strict.specs.Heads.{IsSequential, choice_of, has_scans}
 use Rattle.zaxbriar_strict.specs.Heads.{header_of, sent_with}
 use Rattle.zaxbriar_strict.specs.Heads.{is_baseline_process, is_progressive_process, members_of}
-use Rattle.zaxbriar_strict.specs.Heads.{SendsPart, scan_header_of, written_frame}
+use Rattle.zaxbriar_strict.specs.Heads.{SendsPart, lowest_of, pass_in, scan_header_of}
+use Rattle.zaxbriar_strict.specs.Heads.{written_frame}
+use Rattle.zaxbriar_strict.specs.Progress.{AreNoted}
 use Rattle.zaxbriar_strict.specs.declared.frame.Frame.{Frame}
 use Rattle.zaxbriar_strict.specs.declared.frame.Process.{Process}
 use Rattle.zaxbriar_strict.specs.declared.scan.Member.{Member}
@@ -76,6 +78,8 @@ pub record NotesScan (s : Scan) (old new : Frame) : Type 0 where
   pub tables : HaveTables (most_tables old.process) (members_of s)
   pub whole : IsSequential old → SendsAll s
   pub part : is_progressive_process old.process ≡ true → SendsPart s
+  pub noted : is_progressive_process old.process ≡ true
+      → AreNoted (pass_in s) (members_of s) (lowest_of old) (lowest_of new)
   pub predicted : IsLosslessFrame old → Predicts old.precision s
   pub same : IsSameFrame old new
   pub unsent : IsSentOnce old → AreUnsent (has_scans old) (members_of s)

@@ -81,8 +81,8 @@ abbrev pub WritesPassBlocks : Pass → List (Via × Block) → List Bool → Typ
 WritesPassBlocks p = WritesBlocks p predictors_at_start 0
 
 -- So many MCUs, of some blocks each, were read of these bytes at these places, where an interval
--- has a number of them, or 0 for any: those of intervals that are closed, and others of the interval
--- that is read now.
+-- has a number of them, or 0 for any: those of intervals that are closed, and others of the
+-- interval that is read now.
 pub record IsOpen (is_kept : Bool) (p : Pass) (unit : List Via) (every : ℕ) (bytes : List ℕ)
     (count : ℕ) (places : List Place) (from to : Kept) (i : Intervals) (past : Past) : Type 0 where
   pub not_empty : 1 ≤ length unit
@@ -96,7 +96,8 @@ pub record IsOpen (is_kept : Bool) (p : Pass) (unit : List Via) (every : ℕ) (b
   pub numbered : i.next % 8 ≡ number % 8
   pub rest : List ℕ
   pub closes : AreGood is_kept p closed
-      → Closes (WritesPassBlocks p) (every * length unit) (turns_by p (repeated before unit) closed) number bytes rest
+      → Closes (WritesPassBlocks p) (every * length unit)
+      (turns_by p (repeated before unit) closed) number bytes rest
   pub size : ℕ
   pub own : List Place
   pub run : ReadsRun is_kept p (repeated size unit) own at_start past middle to (data_at rest)

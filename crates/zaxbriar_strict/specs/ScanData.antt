@@ -15,7 +15,8 @@ use Rattle.zaxbriar_strict.specs.Heads.{IsMade, IsSequential, is_progressive_pro
 use Rattle.zaxbriar_strict.specs.Heads.{SendsPart, pass_in, written_frame}
 use Rattle.zaxbriar_strict.specs.Installed.{codes_of, steps_of}
 use Rattle.zaxbriar_strict.specs.Members.{HaveTables}
-use Rattle.zaxbriar_strict.specs.Runs.{AreChanged, AreGood, WritesGroups, WritesPassBlocks, turns_by}
+use Rattle.zaxbriar_strict.specs.Runs.{AreChanged, AreGood, WritesGroups, WritesPassBlocks}
+use Rattle.zaxbriar_strict.specs.Runs.{turns_by}
 use Rattle.zaxbriar_strict.specs.declared.frame.Frame.{Frame}
 use Rattle.zaxbriar_strict.specs.declared.scan.Member.{Member}
 use Rattle.zaxbriar_strict.specs.declared.scan.Scan.{Scan}
@@ -81,8 +82,8 @@ pub record HasMembers (f : Frame) (s : Scan) : Type 0 where
   pub within : AllByRecursion (λ m. m.component < length f.components.items) (members_of s)
   pub tables : HaveTables 3 (members_of s)
 
--- What such a scan of a frame by DCT sends: all of a sequential frame, or its own band and bits of a
--- progressive one.
+-- What such a scan of a frame by DCT sends: all of a sequential frame, or its own band and bits of
+-- a progressive one.
 pub data Sends (f : Frame) (s : Scan) (p : Pass) : Type 0 where
   sends_all : IsSequential f → p ≡ whole_pass → Sends f s p
   sends_part : is_progressive_process f.process ≡ true → p ≡ pass_in s → SendsPart s → Sends f s p

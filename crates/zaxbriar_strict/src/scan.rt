@@ -5,11 +5,12 @@ ghost use Rattle.std.specs.Prelude.{take, true};
 ghost use Rattle.jpeg_segments.specs.ScanHeader.{blocks_by};
 ghost use Rattle.jpeg_segments.specs.ScanHeaders.{choice_bytes};
 ghost use Rattle.zaxbriar_strict.specs.Heads.{factors_of, IsMade, members_of, number_of};
-ghost use Rattle.zaxbriar_strict.specs.Heads.{ReadsHeader, SendsPart, is_progressive_process, written_frame};
+ghost use Rattle.zaxbriar_strict.specs.Heads.{ReadsHeader, SendsPart, is_progressive_process};
+ghost use Rattle.zaxbriar_strict.specs.Heads.{pass_in, written_frame};
 ghost use Rattle.zaxbriar_strict.specs.Members.{AreMembers, choices_of, HaveTables, most_tables};
 ghost use Rattle.zaxbriar_strict.specs.Members.{NotesScan, Predicts, SendsAll, TakesMember};
 ghost use Rattle.zaxbriar_strict.specs.Members.{TakesScan};
-ghost use Rattle.zaxbriar_strict.specs.Progress.{NotesBand, level_before};
+ghost use Rattle.zaxbriar_strict.specs.Progress.{NotesBand, NotesPass, level_before};
 
 use crate::cursor::Cursor;
 use crate::frame::{Component, Frame, Process};
@@ -167,11 +168,8 @@ impl Scan {
         ensures factors { IfOk result (λ _. factors_of component.new ≡ factors_of component.old) }
         ensures sent { IfOk result (λ _. component.new.has_scan ≡ true) }
         ensures rows { component.new.rows ≡ component.old.rows }
-        ensures noted { IfOk result (λ _. self.now.first ≤ self.now.last
-            → NotesBand self.now.first (self.now.last + 1) (level_before self.now.high)
-            self.now.low component.old.lowest component.new.lowest) }
-        ensures dc { IfOk result (λ _. self.now.first ≢ 0
-            → get_or component.old.lowest 0 None ≢ None) }
+        ensures noted { IfOk result (λ _. SendsPart self.now
+            → NotesPass (pass_in self.now) component.old.lowest component.new.lowest) }
     {
         if self.first != 0 && component.lowest[0].is_none() {
             return Err(Rule::BandBeforeDc);
@@ -193,6 +191,9 @@ impl Scan {
         ensures unsent { IfOk result
             (λ _. number_of process ≢ 2 → component.old.has_scan ≡ false) }
         ensures sent { IfOk result (λ _. component.new.has_scan ≡ true) }
+        ensures noted { IfOk result (λ _. is_progressive_process process ≡ true
+            → SendsPart self.now
+            → NotesPass (pass_in self.now) component.old.lowest component.new.lowest) }
     {
         if process == Process::Progressive {
             return self.note_progress(component);

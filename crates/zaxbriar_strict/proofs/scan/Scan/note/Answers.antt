@@ -1,6 +1,6 @@
-use Rattle.std.proofs.Common.{◌≡◌, ◌≢◌, ◌≤◌, ℕ, refl, subst}
+use Rattle.std.proofs.Common.{◌≡◌, ◌≢◌, ◌≤◌, ℕ, refl, sym, ap, ◌∙◌, subst}
 use Rattle.std.proofs.lemmas.Result.{IfOk-weaker}
-use Rattle.zaxbriar_strict.specs.Heads.{number_of}
+use Rattle.zaxbriar_strict.specs.Heads.{is_progressive_process, number_of}
 use Rattle.zaxbriar_strict.specs.Members.{NotesScan, Predicts, SendsAll}
 use Rattle.zaxbriar_strict.specs.declared.frame.Process.{Process}
 use Rattle.zaxbriar_strict.specs.declared.scan.Member.{Member}
@@ -9,13 +9,13 @@ use Rattle.zaxbriar_strict.proofs.SameFrames.{same-precision}
 use Rattle.zaxbriar_strict.proofs.scan.Scan.note.Goals as goal
 
 pub loop-member-init : goal.loop-member-init
-loop-member-init c = none-noted c.args.frame.now
+loop-member-init c = none-noted c.args.self.now c.args.frame.now
 
 pub loop-member-preserved : goal.loop-member-preserved
 loop-member-preserved c =
     let none : Member = record { component = 0; dc = 0; ac = 0 } in
     let noted = c.in_ok-note_component.ensures in
-    next-noted c.members-member-items.result.now c.loop-member.member-index none c.in-Some.component.now
+    next-noted c.args.self.now c.members-member-items.result.now c.loop-member.member-index none c.in-Some.component.now
     c.note_component.new.component c.args.frame.now c.loop-member.frame _ c.loop-member-test.true
     c.loop-member.invariant (record {
       within = c.in-Some.ensures.item.3.0;
@@ -31,6 +31,9 @@ loop-member-preserved c =
       unsent = λ once.
           noted.unsent (subst (λ (p : Process). number_of p ≢ 2) c.loop-member.invariant.same.process once);
       sent = noted.sent;
+      noted = λ e.
+          let first = ap is_progressive_process (sym c.loop-member.invariant.same.process) ∙ e in
+          noted.noted first (c.in_ok-check_part.ensures first);
     })
 
 pub returns : goal.returns
