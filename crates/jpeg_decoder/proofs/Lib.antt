@@ -14,3 +14,4 @@ pub mod Pictures
 pub mod LosslessFrames
 pub mod ByRows
 pub mod FedBytes
+pub mod Checkpoints

@@ -20,3 +20,4 @@ pub mod ShownRows
 pub mod ShownTold
 pub mod ShownBegun
 pub mod ShownLines
+pub mod FramesStay

@@ -13,6 +13,7 @@ use Rattle.jpeg_bits.specs.declared.beyond.Beyond.{Beyond}
 use Rattle.jpeg_bits.specs.declared.beyond.Beyond.TheVariants.{Nothing, Zeros}
 use Rattle.jpeg_decoder.specs.Reaching.{UnlessRefused, without_tables}
 use Rattle.jpeg_decoder.specs.declared.scan.work.Walk.{Walk}
+use Rattle.jpeg_decoder.specs.declared.stream.state.Step.{Step}
 
 -- What a result says of the bytes. Where what is read before a fault counts, memory may run out
 -- after a fault of the reader.
@@ -46,6 +47,15 @@ walk_for left beyond turns header found bytes =
 abbrev pub walk_over : Option ℕ → Beyond → Bool → Found → List ℕ → Walked
 walk_over left beyond header found bytes =
     walk_for left beyond (suc (length bytes)) header found bytes
+
+-- So many turns from a step on, and all: each takes a byte, or a restart marker that is met.
+abbrev pub steps_for : Option ℕ → Beyond → ℕ → Found → Step → List ℕ → Walked
+steps_for left beyond turns found step bytes =
+    walk left beyond turns false step.before found step.met bytes
+
+abbrev pub steps_over : Option ℕ → Beyond → Found → Step → List ℕ → Walked
+steps_over left beyond found step bytes =
+    steps_for left beyond (suc (suc (length bytes))) found step bytes
 
 -- what is found by it, where it has no fault
 abbrev pub walked_to : Walked → Outcome Found

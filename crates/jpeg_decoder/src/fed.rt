@@ -1,6 +1,7 @@
 //! A decoder that is fed the bytes of a stream in pieces, as they arrive.
 ghost use Rattle.std.specs.Prelude.{◌≡◌, ◌++◌, Ok, Some, MatchResult, IfErr, IfOk, OnErr};
 ghost use Rattle.std.specs.Prelude.{IsSomeAnd, OnOk, [], false, option_map, true};
+ghost use Rattle.std.specs.Prelude.{◌≤◌, ◌<◌, ◌+◌, ◌^◌, drop, length};
 ghost use Rattle.std.specs.List.{concat};
 ghost use Rattle.jpeg_bits.specs.Reading.{IsGivenUp, Names};
 ghost use Rattle.jpeg_bits.specs.declared.error.Error.TheVariants.{OutOfMemory};
@@ -10,11 +11,15 @@ ghost use Rattle.jpeg_meaning.specs.Shown.{shown_rest_within, whole_rows_rest};
 ghost use Rattle.jpeg_meaning.specs.Stream.{header_at, told_of};
 ghost use Rattle.jpeg_meaning.specs.declared.progress.Progress.TheVariants.{Fresh, HeaderRead};
 ghost use Rattle.jpeg_decoder.specs.Bytes.{AreLinesOf, IsWhole, shape_in};
-ghost use Rattle.jpeg_decoder.specs.Fed.{ShowsFed, fed_by, frame_of, shape_fed};
+ghost use Rattle.jpeg_decoder.specs.Fed.{IsAt, ShowsFed, fed_by, frame_of, shape_fed};
 ghost use Rattle.jpeg_decoder.specs.Shows.{IsShown};
 
+pub(crate) mod checkpoint;
+pub(crate) mod lookahead;
+
 use crate::decoder::{Decoder, PartialPicture};
-use crate::picture::partial::PartialLines;
+use crate::fed::checkpoint::{Checkpoint, READ_AHEAD, move_on, source_of};
+use crate::picture::partial::{PartialLines, show_from};
 use jpeg_bits::color_transform::ColorTransform;
 use jpeg_bits::error::{Error, Result};
 use jpeg_bits::source::slice_reader::SliceReader;
@@ -24,17 +29,15 @@ use std::alloc::Global;
 use std::io::Read;
 use std::marker::Model;
 
-/// How many bytes are read ahead at most.
-const READ_AHEAD: usize = 65536;
-
-/// Returns whether the reader of a decoder was given up before this refusal or fault.
-fn is_given_up<R: Read + Drop>(decoder: &Decoder<R>, fault: &Error) -> bool
-    ensures failed { result ≡ false → decoder.now.source.failed ≡ false }
-    ensures given { result ≡ false → IsGivenUp fault.now decoder.now.source.failed → ⊥ }
+/// Returns whether a reader, of which a read has failed or not, was given up before this refusal or
+/// fault.
+fn is_given_up(has_failed: bool, fault: &Error) -> bool
+    ensures failed { result ≡ false → has_failed ≡ false }
+    ensures given { result ≡ false → IsGivenUp fault.now has_failed → ⊥ }
 {
     match fault {
-        Error::Format(text) => text.is_empty() || decoder.has_read_failed(),
-        _ => decoder.has_read_failed(),
+        Error::Format(text) => text.is_empty() || has_failed,
+        _ => has_failed,
     }
 }
 
@@ -53,7 +56,7 @@ fn read_header<R: Read + Drop>(decoder: &mut Decoder<R>) -> Result<()>
     match decoder.read_info() {
         Ok(()) => Ok(()),
         Err(error) => {
-            if is_given_up(decoder, &error) {
+            if is_given_up(decoder.has_read_failed(), &error) {
                 return Err(Error::OutOfMemory);
             }
             Err(error)
@@ -76,21 +79,20 @@ fn info_of<R: Read + Drop>(decoder: &mut Decoder<R>) -> Result<Option<ImageInfo>
     }
 }
 
-/// Returns whether the reader of a decoder was given up before it has shown what there is.
-fn is_lost<R: Read + Drop>(decoder: &Decoder<R>, shown: &Result<PartialLines>) -> bool
+/// Returns whether a reader, of which a read has failed or not, was given up before it has shown
+/// what there is.
+fn is_lost(has_failed: bool, shown: &Result<PartialLines>) -> bool
     ensures fault { IfOk shown.now (λ p. result ≡ false
-        → IsSomeAnd p.fault (λ e. IsGivenUp e decoder.now.source.failed) → ⊥) }
-    ensures failed { IfErr shown.now
-        (λ e. result ≡ false → decoder.now.source.failed ≡ false) }
-    ensures given { IfErr shown.now
-        (λ e. result ≡ false → IsGivenUp e decoder.now.source.failed → ⊥) }
+        → IsSomeAnd p.fault (λ e. IsGivenUp e has_failed) → ⊥) }
+    ensures failed { IfErr shown.now (λ e. result ≡ false → has_failed ≡ false) }
+    ensures given { IfErr shown.now (λ e. result ≡ false → IsGivenUp e has_failed → ⊥) }
 {
     match shown {
         Ok(partial) => match &partial.fault {
-            Some(fault) => is_given_up(decoder, fault),
+            Some(fault) => is_given_up(has_failed, fault),
             None => false,
         },
-        Err(error) => is_given_up(decoder, error),
+        Err(error) => is_given_up(has_failed, error),
     }
 }
 
@@ -108,7 +110,7 @@ fn show_rest<R: Read + Drop>(decoder: &mut Decoder<R>) -> Result<PartialLines>
     ensures size { IfOk result (λ p. IsWhole (shape_in decoder.old) (concat p.lines)) }
 {
     let shown = decoder.decode_partial_lines();
-    if is_lost(decoder, &shown) {
+    if is_lost(decoder.has_read_failed(), &shown) {
         return Err(Error::OutOfMemory);
     }
     shown
@@ -126,6 +128,47 @@ fn show<R: Read + Drop>(decoder: &mut Decoder<R>) -> Result<PartialLines>
     show_rest(decoder)
 }
 
+/// Returns the bytes after the first ones, of which there are at least two.
+fn bytes_after(bytes: &[u8], offset: usize) -> &[u8]
+    requires begun { 2 ≤ offset }
+    requires within { offset ≤ length bytes.now }
+    ensures rest { result.now ≡ drop offset bytes.now }
+    ensures short { length result.now + 1 < 2 ^ 64 }
+{
+    bytes.split_at(offset).1
+}
+
+/// Shows what bytes in memory bring after a checkpoint of them. Their reader isn't given up: where it
+/// is all the same, it counts as a lack of memory.
+fn show_after(
+    alloc: Global,
+    bytes: &[u8],
+    checkpoint: &Checkpoint,
+    settings: Settings,
+) -> Result<PartialLines>
+    requires { IsAt settings.max_blocks bytes.now checkpoint.now }
+    ensures shows { ShowsFed (λ p. concat p.lines) (λ p. p.fault) (λ p. p.whole_rows)
+        (record { settings = settings; bytes = bytes.now }) result }
+    ensures lines { IfOk result (λ p. AreLinesOf
+        (shape_fed (record { settings = settings; bytes = bytes.now })) p.lines) }
+{
+    let mut source = source_of(alloc, bytes_after(bytes, checkpoint.offset))?;
+    let mut state = checkpoint.state.copied(alloc)?;
+    let step = checkpoint.step;
+    let shown = show_from(
+        alloc,
+        &mut source,
+        &mut state,
+        step,
+        checkpoint.left,
+        settings,
+    );
+    if is_lost(source.has_failed(), &shown) {
+        return Err(Error::OutOfMemory);
+    }
+    shown
+}
+
 /// Takes the bytes of a stream in pieces, as they arrive, and shows at any time what they have
 /// brought so far. It keeps all bytes.
 ///
@@ -141,14 +184,23 @@ pub struct FedDecoder {
     alloc: Global,
     settings: Settings,
     bytes: Vec<u8>,
+    /// How far the bytes were read once and for all, if they begin with the start of a stream.
+    checkpoint: Option<Checkpoint>,
+    /// Where a segment or a scan stands that has a fault: no checkpoint is moved over it.
+    stop: usize,
 }
 
 impl Model for FedDecoder {
-    ghost use Rattle.jpeg_decoder.specs.Fed.{FedState};
+    ghost use Rattle.std.specs.Prelude.{IfSome};
+    ghost use Rattle.jpeg_decoder.specs.Fed.{FedState, IsAt};
 
     ghost Value = { FedState };
 
     ghost view = { λ d. record { settings = d.settings; bytes = d.bytes.items } };
+
+    // The checkpoint is one of the bytes, and of the limit on blocks.
+    ghost invariant = { λ d. IfSome d.checkpoint
+        (λ c. IsAt d.settings.max_blocks d.bytes.items c) };
 }
 
 impl FedDecoder {
@@ -165,6 +217,8 @@ impl FedDecoder {
                 luma: false,
             },
             bytes: Vec::new(alloc),
+            checkpoint: None,
+            stop: usize::MAX,
         }
     }
 
@@ -207,6 +261,8 @@ impl FedDecoder {
         } }
     {
         self.settings.max_blocks = max;
+        self.checkpoint = None;
+        self.stop = usize::MAX;
     }
 
     /// Takes the next bytes of the stream. The only error is `OutOfMemory`, in which case none of
@@ -252,32 +308,46 @@ impl FedDecoder {
 
     /// Returns the lines of the picture that the bytes have brought so far, and their first fault:
     /// see `show`.
-    pub fn show_lines(&self) -> Result<PartialLines>
+    pub fn show_lines(&mut self) -> Result<PartialLines>
         // What the bytes that were fed show, all at once: see `ShowsFed`.
-        ensures shows { ShowsFed (λ p. concat p.lines) (λ p. p.fault) (λ p. p.whole_rows) self.now
+        ensures shows { ShowsFed (λ p. concat p.lines) (λ p. p.fault) (λ p. p.whole_rows) self.old
             result }
 
         // There are as many lines as `info` says, each of as many bytes as the frame says.
-        ensures lines { IfOk result (λ p. AreLinesOf (shape_fed self.now) p.lines) }
+        ensures lines { IfOk result (λ p. AreLinesOf (shape_fed self.old) p.lines) }
+
+        // The settings and the bytes stay.
+        ensures same { self.new ≡ self.old }
     {
-        show(&mut self.decoder()?)
+        let from = self.checkpoint.take();
+        let most = self.settings.max_blocks;
+        self.checkpoint = move_on(self.alloc, &self.bytes, most, from, &mut self.stop)?;
+        match &self.checkpoint {
+            Some(checkpoint) => show_after(self.alloc, &self.bytes, checkpoint, self.settings),
+            None => show(&mut self.decoder()?),
+        }
     }
 
     /// Returns the picture that the bytes have brought so far, and their first fault: what
     /// [`Decoder::decode_partial`] of a new decoder with these settings returns for all of them
     /// together, however they were fed. While the stream isn't complete the fault is that it ends.
     ///
-    /// Nothing changes, so that more bytes can be fed. It decodes all bytes anew: to show a stream
-    /// n times while it arrives takes about n / 2 times as long as to decode it once.
+    /// More bytes can be fed after it. Each segment and each whole scan of the stream is read once,
+    /// by the first call after it has arrived; a call reads again only the scan in which the bytes
+    /// end, and makes the picture. So what the whole scans have brought is in memory twice while a
+    /// call runs. Where a whole scan has a fault, what stands before it is read once more.
     ///
     /// The errors are those of `decode_partial`: a fault where no frame header was accepted before
     /// it, as while the header isn't complete; `Format` if the picture is above the limit, the
     /// colour transform doesn't fit it, or it has no luma of its own and `set_luma` asks for that;
     /// and `OutOfMemory`.
-    pub fn show(&self) -> Result<PartialPicture>
+    pub fn show(&mut self) -> Result<PartialPicture>
         // What the bytes that were fed show, all at once: see `ShowsFed`.
-        ensures shows { ShowsFed (λ p. p.pixels.items) (λ p. p.fault) (λ p. p.whole_rows) self.now
+        ensures shows { ShowsFed (λ p. p.pixels.items) (λ p. p.fault) (λ p. p.whole_rows) self.old
             result }
+
+        // The settings and the bytes stay.
+        ensures same { self.new ≡ self.old }
     {
         let shown = self.show_lines()?;
         let pixels = shown.lines.into_picture(self.alloc)?;

@@ -50,6 +50,7 @@
 
 pub mod arch;
 mod by_rows;
+mod copies;
 pub mod decoder;
 pub mod error;
 pub mod fed;

@@ -120,6 +120,18 @@ impl JointPlanes {
         Ok(JointPlanes { shape, samples })
     }
 
+    /// Copies the planes. The only error is a refused allocation.
+    pub fn copied(&self, alloc: Global) -> std::result::Result<JointPlanes, AllocError>
+        ensures shape { IfOk result (λ p. p.shape ≡ self.now.shape) }
+        ensures samples { IfOk result (λ p. p.samples.items ≡ self.now.samples.items) }
+    {
+        let samples = Vec::from_slice(alloc, &self.samples)?;
+        Ok(JointPlanes {
+            shape: self.shape,
+            samples,
+        })
+    }
+
     /// Copies the plane of the component in a slot, once all rows were read. The only error is a
     /// refused allocation.
     #[tactic(auto, using(crate::proofs::JointPictures::strips))]

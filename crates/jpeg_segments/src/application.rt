@@ -38,6 +38,22 @@ pub struct IccChunk {
     pub bytes: Vec<u8>,
 }
 
+impl IccChunk {
+    ghost use Rattle.std.specs.Prelude.{◌≡◌, IfOk};
+    ghost use Rattle.jpeg_segments.specs.FrameView.{chunk_in};
+
+    /// Copies the part. The only error is a refused allocation.
+    pub fn copied(&self, alloc: Global) -> std::result::Result<IccChunk, AllocError>
+        ensures { IfOk result (λ chunk. chunk_in chunk ≡ chunk_in self.now) }
+    {
+        Ok(IccChunk {
+            num_markers: self.num_markers,
+            seq_no: self.seq_no,
+            bytes: Vec::from_slice(alloc, &self.bytes)?,
+        })
+    }
+}
+
 /// What the segment of an application says.
 #[derive(Debug, Drop)]
 pub enum AppData {

@@ -1,5 +1,7 @@
 //! Frames: their components, processes and sizes (T.81, B.2.2).
 
+use std::alloc::{AllocError, Global};
+
 /// A width and a height, in the units of its use: pixels, samples, blocks or MCUs.
 #[derive(Clone, Copy, Debug, PartialEq)]
 pub struct Dimensions {
@@ -69,6 +71,28 @@ pub struct FrameInfo {
     pub mcu_size: Dimensions,
     /// Its components, in the header's order.
     pub components: Vec<Component>,
+}
+
+impl FrameInfo {
+    ghost use Rattle.std.specs.Prelude.{◌≡◌, IfOk};
+    ghost use Rattle.jpeg_segments.specs.FrameView.{frame_in};
+
+    /// Copies the frame. The only error is a refused allocation.
+    pub fn copied(&self, alloc: Global) -> Result<FrameInfo, AllocError>
+        ensures { IfOk result (λ frame. frame_in frame ≡ frame_in self.now) }
+    {
+        Ok(FrameInfo {
+            is_baseline: self.is_baseline,
+            is_differential: self.is_differential,
+            coding_process: self.coding_process,
+            entropy_coding: self.entropy_coding,
+            precision: self.precision,
+            image_size: self.image_size,
+            output_size: self.output_size,
+            mcu_size: self.mcu_size,
+            components: Vec::from_clones(alloc, &self.components)?,
+        })
+    }
 }
 
 /// What a frame header says of a component (T.81, B.2.2).

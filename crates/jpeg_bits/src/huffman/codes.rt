@@ -217,6 +217,26 @@ impl HuffmanTable {
         }
     }
 
+    /// Copies the table without its look-up tables, which are filled as those of `unfilled` are. The
+    /// only error is a refused allocation.
+    pub fn copied(&self, alloc: Global) -> std::result::Result<HuffmanTable, AllocError>
+        ensures { IfOk result (λ t. t ≡ self.now) }
+    {
+        let Some(codes) = &self.codes else {
+            return Ok(HuffmanTable::without_codes(alloc, self.class));
+        };
+        let codes = Box::new(alloc, codes.copied())?;
+        Ok(HuffmanTable {
+            class: self.class,
+            codes: Some(codes),
+            tokens: Vec::new(alloc),
+            wide_tokens: Vec::new(alloc),
+            skips: Vec::new(alloc),
+            pairs: Vec::new(alloc),
+            differences: Vec::new(alloc),
+        })
+    }
+
     /// Fills the look-up table of values of at most 8 bits of a table of class AC, by which
     /// `decode_fast_ac` answers at once: `new` has filled it, and `unfilled` hasn't. Nothing else
     /// changes, and a second call does nothing. The only error is `AllocError`.
@@ -487,6 +507,19 @@ impl CodeTables {
             count: 0,
             rows: [NO_ROW; 16],
             short: [0; 256],
+        }
+    }
+
+    /// Copies the tables.
+    fn copied(&self) -> CodeTables
+        ensures { result ≡ self.now }
+    {
+        CodeTables {
+            counts: self.counts,
+            symbols: self.symbols,
+            count: self.count,
+            rows: self.rows,
+            short: self.short,
         }
     }
 

@@ -61,6 +61,11 @@ pub refusal-any : {X : Type 0} (old new : Stream) (r : Result X Error) (P : Type
 refusal-any old new (Ok x) P h = tt
 refusal-any old new (Err e) P h = λ _ _. if-refused e h
 
+pub on-refusal : {X P Q : Type 0} (old new : Stream) (r : Result X Error) → (P → Q) → OnTold old new r P
+    → OnToldRefusal old new r Q
+on-refusal old new (Ok x) h p = tt
+on-refusal old new (Err e) h p = λ k l. if-refused-as e h (p k l)
+
 -- ---- what is found but for the tables
 
 -- What holds between segments is no matter of Huffman tables and restart intervals.

@@ -20,9 +20,9 @@ use Rattle.jpeg_meaning.specs.Found.{Found}
 use Rattle.jpeg_meaning.specs.FoundPictures.{blocks_picture, limited, picture_by_process, picture_of, plane_at_end}
 use Rattle.jpeg_meaning.specs.FoundPictures.{samples_picture}
 use Rattle.jpeg_meaning.specs.Shown.{Shown, completed, fault_in, fault_shown, framed_or, picture_shown, planes_by}
-use Rattle.jpeg_meaning.specs.Shown.{shown_by, shown_of, shown_rest_within, with_plane_shown, with_samples_shown}
+use Rattle.jpeg_meaning.specs.Shown.{shown_by, shown_of, with_plane_shown, with_samples_shown}
 use Rattle.jpeg_meaning.specs.States.{IfRefused, IsOfBytes, OnTold}
-use Rattle.jpeg_meaning.specs.Stream.{Told, Walked, all_brought, told_of}
+use Rattle.jpeg_meaning.specs.Stream.{Told, Walked, told_of}
 use Rattle.jpeg_meaning.specs.declared.settings.Settings.{Settings}
 use Rattle.jpeg_decoder.specs.Reaching.{NamesFault, UnlessRefused, is_out_of_memory, walk_end, without_tables}
 use Rattle.jpeg_decoder.specs.Walks.{walked_to}
@@ -202,60 +202,62 @@ err-end e (Ok rest) other n = grind (arith, common_steps)
 err-end e (Err fault) other n =
     Names-through e (Err fault) (Err fault) (λ g p. ap (λ (r : Outcome (Unit {0})). r >>= (λ x. Err g)) p) n
 
-shown-through : {X : Type 0} (bytes_of : X → List ℕ) (fault_of : X → Option Error) (settings : Settings) (old f : Found)
-    (bytes : List ℕ) (fault : Option Error) (r : Result X Error) (told : Told)
-    → without_tables f ≡ without_tables (all_brought settings.max_blocks old bytes).found
-    → NamesFault fault (fault_in (all_brought settings.max_blocks old bytes).rest)
+-- what a walk shows
+abbrev pub walk_shown : Settings → (List ℕ → Walked) → List ℕ → Result Shown Fault
+walk_shown settings walk bytes = shown_of settings (walk bytes).found (walk bytes).rest
+
+shown-through : {X : Type 0} (bytes_of : X → List ℕ) (fault_of : X → Option Error) (settings : Settings) (f : Found)
+    (w : Walked) (fault : Option Error) (r : Result X Error) (told : Told)
+    → without_tables f ≡ without_tables w.found → NamesFault fault (fault_in w.rest)
     → ((ended : Result (List ℕ) Fault) → NamesFault fault (fault_in ended)
     → IsShown (shown_of settings f ended) bytes_of fault_of r told)
-    → IsShown (shown_rest_within settings.max_blocks settings old bytes) bytes_of fault_of r told
-unfolding shown_rest_within
-shown-through bytes_of fault_of settings old f bytes fault r told same n h =
+    → IsShown (shown_of settings w.found w.rest) bytes_of fault_of r told
+shown-through bytes_of fault_of settings f w fault r told same n h =
     subst (λ (o : Result Shown Fault). IsShown o bytes_of fault_of r told)
-    (shown-same settings f (all_brought settings.max_blocks old bytes).found (all_brought settings.max_blocks old bytes).rest same)
-    (h (all_brought settings.max_blocks old bytes).rest n)
+    (shown-same settings f w.found w.rest same) (h w.rest n)
 
-pub rest-ok : {X : Type 0} (bytes_of : X → List ℕ) (fault_of : X → Option Error) (settings : Settings) (old f : Found)
-    (s n : Stream) (r : Result X Error) (told : Told)
-    → Answers (λ (u : Unit {0}). tt) (λ bytes. walk_end (all_brought settings.max_blocks old bytes)) s (Ok tt) n
-    → (s.known ≡ true → without_tables f ≡ without_tables (all_brought settings.max_blocks old s.bytes).found)
+pub rest-ok : {X : Type 0} (bytes_of : X → List ℕ) (fault_of : X → Option Error) (settings : Settings)
+    (walk : List ℕ → Walked) (f : Found) (s n : Stream) (r : Result X Error) (told : Told)
+    → Answers (λ (u : Unit {0}). tt) (λ bytes. walk_end (walk bytes)) s (Ok tt) n
+    → (s.known ≡ true → without_tables f ≡ without_tables (walk s.bytes).found)
     → ((ended : Result (List ℕ) Fault) → NamesFault None (fault_in ended)
     → IsShown (shown_of settings f ended) bytes_of fault_of r told)
-    → ShowsJust (shown_rest_within settings.max_blocks settings old) bytes_of fault_of s r n told
-rest-ok bytes_of fault_of settings old f s n r told a found h k l =
-    shown-through bytes_of fault_of settings old f s.bytes None r told (found k)
-    (ok-end (all_brought settings.max_blocks old s.bytes).rest _ (a.1 k).1) h
+    → ShowsJust (walk_shown settings walk) bytes_of fault_of s r n told
+rest-ok bytes_of fault_of settings walk f s n r told a found h k l =
+    shown-through bytes_of fault_of settings f (walk s.bytes) None r told (found k)
+    (ok-end (walk s.bytes).rest _ (a.1 k).1) h
 
-pub rest-err : {X : Type 0} (bytes_of : X → List ℕ) (fault_of : X → Option Error) (settings : Settings) (old f : Found)
-    (s n : Stream) (e : Error) (r : Result X Error) (told : Told) → (e ≡ errors.OutOfMemory → ⊥)
-    → IfRefused e (Answers (λ (u : Unit {0}). tt) (λ bytes. walk_end (all_brought settings.max_blocks old bytes)) s (Err e) n)
-    → (s.known ≡ true → n.known ≡ true → IfRefused e (without_tables f ≡ without_tables (all_brought settings.max_blocks old s.bytes).found))
+pub rest-err : {X : Type 0} (bytes_of : X → List ℕ) (fault_of : X → Option Error) (settings : Settings)
+    (walk : List ℕ → Walked) (f : Found) (s n : Stream) (e : Error) (r : Result X Error) (told : Told)
+    → (e ≡ errors.OutOfMemory → ⊥)
+    → IfRefused e (Answers (λ (u : Unit {0}). tt) (λ bytes. walk_end (walk bytes)) s (Err e) n)
+    → (s.known ≡ true → n.known ≡ true → IfRefused e (without_tables f ≡ without_tables (walk s.bytes).found))
     → ((ended : Result (List ℕ) Fault) → NamesFault (Some e) (fault_in ended)
     → IsShown (shown_of settings f ended) bytes_of fault_of r told)
-    → ShowsJust (shown_rest_within settings.max_blocks settings old) bytes_of fault_of s r n told
-rest-err bytes_of fault_of settings old f s n e r told other a found h k l =
-    shown-through bytes_of fault_of settings old f s.bytes (Some e) r told (if-there e _ other (found k l))
-    (err-end e (all_brought settings.max_blocks old s.bytes).rest other ((if-there e _ other a).1 k l)) h
+    → ShowsJust (walk_shown settings walk) bytes_of fault_of s r n told
+rest-err bytes_of fault_of settings walk f s n e r told other a found h k l =
+    shown-through bytes_of fault_of settings f (walk s.bytes) (Some e) r told (if-there e _ other (found k l))
+    (err-end e (walk s.bytes).rest other ((if-there e _ other a).1 k l)) h
 
 not-memory : (e : Error) → is_out_of_memory {X = Unit {0}} (Err e) ≡ false → e ≡ errors.OutOfMemory → ⊥
 not-memory e h is = true≢false (sym (ap (λ (e : Error). is_out_of_memory {X = Unit {0}} (Err e)) is) ∙ h)
 
-pub rest-shown : {X : Type 0} (bytes_of : X → List ℕ) (fault_of : X
-    → Option Error) (settings : Settings) (old f g : Found)
+pub rest-shown : {X : Type 0} (bytes_of : X → List ℕ) (fault_of : X → Option Error) (settings : Settings)
+    (walk : List ℕ → Walked) (f g : Found)
     (s n : Stream) (ended : Result (Unit {0}) Error) (fault : Option Error) (r : Result X Error) (told : Told)
     → is_out_of_memory ended ≡ false
-    → UnlessRefused ended (Answers (λ (u : Unit {0}). tt) (λ bytes. walk_end (all_brought settings.max_blocks old bytes)) s ended n)
-    → OnTold s n ended (without_tables f ≡ without_tables (all_brought settings.max_blocks old s.bytes).found)
+    → UnlessRefused ended (Answers (λ (u : Unit {0}). tt) (λ bytes. walk_end (walk bytes)) s ended n)
+    → OnTold s n ended (without_tables f ≡ without_tables (walk s.bytes).found)
     → fault ≡ result_err ended → g ≡ f
     → ((w : Result (List ℕ) Fault) → NamesFault fault (fault_in w)
     → IsShown (shown_of settings g w) bytes_of fault_of r told)
-    → ShowsJust (shown_rest_within settings.max_blocks settings old) bytes_of fault_of s r n told
-rest-shown bytes_of fault_of settings old f g s n (Ok u) fault r told m a found is e h =
-    rest-ok bytes_of fault_of settings old f s n r told a found
+    → ShowsJust (walk_shown settings walk) bytes_of fault_of s r n told
+rest-shown bytes_of fault_of settings walk f g s n (Ok u) fault r told m a found is e h =
+    rest-ok bytes_of fault_of settings walk f s n r told a found
     (λ w p. subst (λ (x : Found). IsShown (shown_of settings x w) bytes_of fault_of r told) e
     (h w (subst (λ (o : Option Error). NamesFault o (fault_in w)) (sym is) p)))
-rest-shown bytes_of fault_of settings old f g s n (Err x) fault r told m a found is e h =
-    rest-err bytes_of fault_of settings old f s n x r told (not-memory x m) a found
+rest-shown bytes_of fault_of settings walk f g s n (Err x) fault r told m a found is e h =
+    rest-err bytes_of fault_of settings walk f s n x r told (not-memory x m) a found
     (λ w p. subst (λ (x : Found). IsShown (shown_of settings x w) bytes_of fault_of r told) e
     (h w (subst (λ (o : Option Error). NamesFault o (fault_in w)) (sym is) p)))
 

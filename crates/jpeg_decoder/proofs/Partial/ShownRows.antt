@@ -7,9 +7,9 @@ use Rattle.jpeg_bits.specs.Stream.{Stream}
 use Rattle.jpeg_bits.specs.declared.error.Error.{Error}
 use Rattle.jpeg_segments.specs.Frame.{Frame}
 use Rattle.jpeg_meaning.specs.Found.{Found}
-use Rattle.jpeg_meaning.specs.Shown.{fault_in, planes_by, rows_of_found, rows_of_frame, whole_rows_rest}
+use Rattle.jpeg_meaning.specs.Shown.{fault_in, planes_by, rows_of_found, rows_of_frame}
 use Rattle.jpeg_meaning.specs.States.{OnTold}
-use Rattle.jpeg_meaning.specs.Stream.{all_brought}
+use Rattle.jpeg_meaning.specs.Stream.{Walked}
 use Rattle.jpeg_decoder.specs.Reaching.{NamesFault, is_out_of_memory, without_tables}
 use Rattle.jpeg_decoder.specs.Shows.{CountsRows}
 use Rattle.jpeg_decoder.proofs.Partial.ShownFaults.{planes-tables, told-holds}
@@ -53,14 +53,15 @@ found-same rows f g e =
 
 -- ---- the rest of a stream, and a whole one
 
-pub rest-counted : {X : Type 0} (rows_of : X → ℕ) (limit : Option ℕ) (old f g : Found) (s n : Stream) (ended : Result (Unit {0}) Error)
-    (rows : Option ℕ) (r : Result X Error) → is_out_of_memory ended ≡ false
-    → OnTold s n ended (without_tables f ≡ without_tables (all_brought limit old s.bytes).found)
-    → OnTold s n ended (rows ≡ (all_brought limit old s.bytes).rows) → g ≡ f
-    → IfOk r (λ x. rows_of x ≡ rows_of_found rows g) → CountsRows rows_of (whole_rows_rest limit old) s r n
-unfolding whole_rows_rest
-rest-counted rows_of limit old f g s n ended rows r m found counted same h = λ k l.
-    let all = (all_brought limit old s.bytes).found in
+-- by a walk
+pub rest-counted : {X : Type 0} (rows_of : X → ℕ) (walk : List ℕ → Walked) (f g : Found) (s n : Stream)
+    (ended : Result (Unit {0}) Error) (rows : Option ℕ) (r : Result X Error) → is_out_of_memory ended ≡ false
+    → OnTold s n ended (without_tables f ≡ without_tables (walk s.bytes).found)
+    → OnTold s n ended (rows ≡ (walk s.bytes).rows) → g ≡ f
+    → IfOk r (λ x. rows_of x ≡ rows_of_found rows g)
+    → CountsRows rows_of (λ bytes. rows_of_found (walk bytes).rows (walk bytes).found) s r n
+rest-counted rows_of walk f g s n ended rows r m found counted same h = λ k l.
+    let all = (walk s.bytes).found in
     IfOk-weaker r _ _ (λ x is. is ∙ ap (rows_of_found rows) same
     ∙ found-same rows f all (told-holds s n ended _ m found k l)
     ∙ ap (λ (rows : Option ℕ). rows_of_found rows all) (told-holds s n ended _ m counted k l)) h

@@ -1,7 +1,7 @@
 -- A stream whose header is read, and then the rest of it.
 use Rattle.std.proofs.Common.{◌≡◌, ◌+◌, ◌<◌, ℕ, zero, suc, List, Result, Ok, Err, Bool, true, false}
 use Rattle.std.proofs.Common.{None, Option, Some, refl, sym, subst, ap, ap₂, ◌∙◌, length, arith, ◌&&◌, is_some}
-use Rattle.jpeg_bits.specs.Reading.{Fault, Outcome, ◌>>=◌}
+use Rattle.jpeg_bits.specs.Reading.{End, Fault, Outcome, ◌>>=◌}
 use Rattle.jpeg_meaning.specs.declared.before.Before.TheVariants.{Elsewhere}
 use Rattle.jpeg_bits.specs.declared.beyond.Beyond.{Beyond}
 use Rattle.jpeg_bits.specs.declared.beyond.Beyond.TheVariants.{Nothing, Zeros}
@@ -150,6 +150,53 @@ unfolding FollowsAt Follows walk
 follows limit beyond zero found bytes = refl
 follows limit beyond (suc n) found bytes =
     follows-turn limit beyond n found bytes (λ t. follows limit beyond n t.0.found t.1)
+
+-- ---- a header that was read has a frame
+
+framed-turn : (n : ℕ) (found : Found) (bytes rest : List ℕ)
+    → ((t : Turn × List ℕ) → (walk None Zeros n true Elsewhere t.0.found None t.1).rest ≡ Ok rest
+    → is_some (walk None Zeros n true Elsewhere t.0.found None t.1).found.said.frame ≡ true)
+    → (walk None Zeros (suc n) true Elsewhere found None bytes).rest ≡ Ok rest
+    → is_some (walk None Zeros (suc n) true Elsewhere found None bytes).found.said.frame ≡ true
+framed-turn n found bytes rest others e =
+    go (is_some found.said.frame) refl (turn_at Zeros Elsewhere found None bytes).turn refl
+  where
+    at : (w : Walked) → walk None Zeros (suc n) true Elsewhere found None bytes ≡ w
+        → (w.rest ≡ Ok rest → is_some w.found.said.frame ≡ true)
+        → is_some (walk None Zeros (suc n) true Elsewhere found None bytes).found.said.frame ≡ true
+    at w q h =
+        ap (λ (v : Walked). is_some v.found.said.frame) q ∙ h (sym (ap (λ (v : Walked). v.rest) q) ∙ e)
+
+    go : (b : Bool) → is_some found.said.frame ≡ b → (r : Outcome Turn)
+        → (turn_at Zeros Elsewhere found None bytes).turn ≡ r
+        → is_some (walk None Zeros (suc n) true Elsewhere found None bytes).found.said.frame ≡ true
+    go true i r q =
+        at (walked found (Ok bytes)) (walk-stop None Zeros (suc n) true Elsewhere found None bytes (omega arith) i)
+        (λ _. i)
+    go false i (Err fault) q =
+        at _ (walk-refused None Zeros n true Elsewhere found None bytes fault i q) (λ h. absurd (err-ok fault rest h))
+    go false i (Ok t) q =
+        let s = on-at IsElsewhere _ t (turn-begins Zeros found bytes i) q in
+        at _ (walk-begun None Zeros n true found bytes t i q s) (others t)
+
+framed-end : (n : ℕ) (found : Found) (bytes rest : List ℕ)
+    → (walk None Zeros n true Elsewhere found None bytes).rest ≡ Ok rest
+    → is_some (walk None Zeros n true Elsewhere found None bytes).found.said.frame ≡ true
+unfolding walk
+framed-end zero found bytes rest e = absurd (err-ok End rest e)
+framed-end (suc n) found bytes rest e =
+    framed-turn n found bytes rest (λ t. framed-end n t.0.found t.1 rest) e
+
+pub header-framed : (found : Found) (bytes rest : List ℕ) → header_at bytes ≡ Ok (found, rest)
+    → is_some found.said.frame ≡ true
+unfolding header_at segments_at
+header-framed found bytes rest e =
+    let s = bind-ok (start_at bytes) _ (found, rest) e in
+    let w = walk_over None Zeros true nothing_found s.0.1 in
+    let h = bind-ok w.rest _ (found, rest) s.2 in
+    let same = ok-same (w.found, h.0) (found, rest) h.2 in
+    ap (λ (x : Found × List ℕ). is_some x.0.said.frame) (sym same)
+    ∙ framed-end (suc (length s.0.1)) nothing_found s.0.1 h.0 h.1
 
 -- ---- before a frame it makes no difference what follows a scan's data
 

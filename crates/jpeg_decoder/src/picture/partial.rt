@@ -1,5 +1,5 @@
 //! The picture of what a stream with a fault has brought.
-ghost use Rattle.std.specs.Prelude.{◌≡◌, ◌<◌, ℕ, List, [], false, true};
+ghost use Rattle.std.specs.Prelude.{◌≡◌, ◌<◌, ℕ, Bool, List, [], false, true};
 ghost use Rattle.std.specs.Prelude.{get_or, IfErr, IfOk, IfSome, is_some, length, None, OnOk};
 ghost use Rattle.std.specs.Prelude.{option_map, replicate, Result, Some, unwrap_or};
 ghost use Rattle.std.specs.List.{concat};
@@ -25,6 +25,7 @@ ghost use Rattle.jpeg_decoder.specs.Scanning.{arrays_in};
 ghost use Rattle.jpeg_decoder.specs.Shows.{CountsRows, GivesUp, IsShown, Knows, ShowsJust};
 ghost use Rattle.jpeg_decoder.specs.Shows.{is_there, told_shown_rest};
 ghost use Rattle.jpeg_decoder.specs.Steps.{with_decoded};
+ghost use Rattle.jpeg_decoder.specs.Walks.{IsKnownIf, known_if, steps_over};
 
 use crate::picture::lines::Lines;
 use crate::picture::whole::{are_kept, picture, read_start};
@@ -32,9 +33,9 @@ use crate::scan::block_array::BlockArray;
 use crate::scan::decoded::{Decoded, render, zero_blocks};
 use crate::scan::samples::grey_samples;
 use crate::scan::work::{Budget, Walk};
-use crate::stream::state::State;
+use crate::stream::state::{State, Step};
 use crate::stream::tables::table_at;
-use crate::stream::turns::read_segments;
+use crate::stream::turns::{read_from, read_segments};
 use jpeg_bits::beyond::Beyond;
 use jpeg_bits::error::{Error, Result, format_error};
 use jpeg_bits::source::Source;
@@ -345,6 +346,47 @@ pub fn show_rest<R: Read + Drop>(
     };
     let ended = read_segments(alloc, source, state, false, Beyond::Nothing, &mut walk);
     *exceeded = walk.budget.exceeded;
+    let mut decoded = std::mem::replace(&mut state.decoded, Decoded::new(alloc));
+    if is_unknown_end(&ended) {
+        return Err(Error::OutOfMemory);
+    }
+    show_found(alloc, state, &mut decoded, settings, ended.err(), walk.rows)
+}
+
+/// Reads a stream after a step up to its first fault, where its scans may code as many blocks as
+/// are `left`, if there is a limit, and returns the lines of the picture that it has brought, as
+/// `show_rest` does.
+pub fn show_from<R: Read + Drop>(
+    alloc: Global,
+    source: &mut Source<R>,
+    state: &mut State,
+    first: Step,
+    left: Option<u64>,
+    settings: Settings,
+) -> Result<PartialLines>
+    requires sound { IsSound state.old }
+    ensures shown { (k : Bool) → IsKnownIf k 1 source.old → ShowsJust (λ bytes. let w = steps_over
+        left Nothing state.old first bytes in shown_of settings w.found w.rest)
+        (λ p. concat p.lines) (λ p. p.fault) (known_if k source.old) result source.new
+        (told_of state.new.said) }
+    ensures rows { (k : Bool) → IsKnownIf k 1 source.old → CountsRows (λ p. p.whole_rows)
+        (λ bytes. let w = steps_over left Nothing state.old first bytes in
+        rows_of_found w.rows w.found) (known_if k source.old) result source.new }
+    ensures given_up { (k : Bool) → IsKnownIf k 1 source.old
+        → GivesUp (λ p. p.fault) (known_if k source.old) result source.new }
+    ensures lines { IfOk result (λ p. AreLinesOf
+        (option_map (shape_of settings) state.new.said.frame) p.lines) }
+    ensures size { IfOk result (λ p. IsWhole
+        (option_map (shape_of settings) state.new.said.frame) (concat p.lines)) }
+{
+    let mut walk = Walk {
+        budget: Budget {
+            left,
+            exceeded: false,
+        },
+        rows: None,
+    };
+    let ended = read_from(alloc, source, state, first, Beyond::Nothing, &mut walk);
     let mut decoded = std::mem::replace(&mut state.decoded, Decoded::new(alloc));
     if is_unknown_end(&ended) {
         return Err(Error::OutOfMemory);

@@ -1,5 +1,5 @@
 //! The blocks of a component, of which as many are stored as scans have reached.
-ghost use Rattle.std.specs.Prelude.{◌≡◌, ◌≤◌, ◌<◌, All, OnOk};
+ghost use Rattle.std.specs.Prelude.{◌≡◌, ◌≤◌, ◌<◌, All, IfOk, OnOk};
 ghost use Rattle.jpeg_decoder.specs.Scanning.{arrays_in, sizes_of, IsFull};
 
 use std::alloc::{AllocError, Global};
@@ -63,6 +63,20 @@ impl BlockArray {
         }
     }
 
+    /// Copies the blocks. No more are stored, and there is as much room for them.
+    #[tactic(auto, unfolding(crate::specs::Scanning::blocks_in))]
+    pub fn copied(&self, alloc: Global) -> Result<BlockArray, AllocError>
+        ensures blocks { IfOk result (λ a. blocks_in a ≡ blocks_in self.now) }
+        ensures stored { IfOk result (λ a. a.blocks.items ≡ self.now.blocks.items) }
+    {
+        let mut blocks = Vec::with_capacity(alloc, self.blocks.capacity())?;
+        blocks.extend_from_slice(&self.blocks)?;
+        Ok(BlockArray {
+            blocks,
+            count: self.count,
+        })
+    }
+
     /// Stores the first blocks, up to this many.
     #[cold]
     #[inline(never)]
@@ -113,4 +127,15 @@ pub fn fill_all(arrays: &mut Vec<BlockArray>) -> Result<(), AllocError>
         slot += 1;
     }
     Ok(())
+}
+
+/// Copies the blocks of some components.
+pub fn copied_arrays(alloc: Global, arrays: &[BlockArray]) -> Result<Vec<BlockArray>, AllocError>
+    ensures { IfOk result (λ v. arrays_in v.items ≡ arrays_in arrays.now) }
+{
+    let mut copies = Vec::with_capacity(alloc, arrays.len())?;
+    for array in arrays {
+        copies.push(array.copied(alloc)?)?;
+    }
+    Ok(copies)
 }

@@ -17,7 +17,8 @@ ghost use Rattle.jpeg_meaning.specs.Found.{none_finished};
 ghost use Rattle.jpeg_decoder.specs.Steps.{blocks_at, coding_in, without_blocks, IsInOrder};
 ghost use Rattle.jpeg_bits.specs.Passes.{whole_pass};
 
-use crate::scan::block_array::BlockArray;
+use crate::copies::copied_lists;
+use crate::scan::block_array::{BlockArray, copied_arrays};
 use crate::scan::coded::{Coded, Scan, is_progressive, is_whole};
 use crate::scan::kept::read_blocks;
 use crate::scan::planes::Planes;
@@ -231,6 +232,23 @@ impl Decoded {
             samples: [None, None, None, None],
             rows: None,
         }
+    }
+
+    /// Copies all of it. The only error is a refused allocation.
+    pub fn copied(&self, alloc: Global) -> std::result::Result<Decoded, AllocError>
+        ensures kept { IfOk result (λ d. arrays_in d.kept.items ≡ arrays_in self.now.kept.items) }
+        ensures finished { IfOk result (λ d. d.finished ≡ self.now.finished) }
+        ensures planes { IfOk result (λ d. d.planes ≡ self.now.planes) }
+        ensures samples { IfOk result (λ d. planes_in d.samples ≡ planes_in self.now.samples) }
+        ensures rows { IfOk result (λ d. d.rows ≡ self.now.rows) }
+    {
+        Ok(Decoded {
+            kept: copied_arrays(alloc, &self.kept)?,
+            finished: self.finished,
+            planes: self.planes.copied(alloc)?,
+            samples: copied_lists(alloc, &self.samples)?,
+            rows: self.rows,
+        })
     }
 
     /// Stores the samples of a lossless scan at the indices of its components, where they replace

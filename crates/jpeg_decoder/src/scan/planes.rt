@@ -5,6 +5,7 @@ ghost use Rattle.std.specs.Prelude.{◌≡◌, IfOk, IfSome, map, option_map, re
 ghost use Rattle.std.specs.Prelude.{None, Some, true};
 ghost use Rattle.jpeg_decoder.specs.PlanesView.{IsFullJoint, joint_in, planes_in};
 
+use crate::copies::copied_lists;
 use jpeg_pixels::joint_planes::{JointPlanes, JointShape};
 use std::alloc::{AllocError, Global};
 use std::marker::Model;
@@ -53,6 +54,21 @@ fn copy_plane(
     }
 }
 
+/// Copies a buffer that planes share, if there is one. The only error is a refused allocation.
+fn copied_joint(
+    alloc: Global,
+    joint: &Option<JointPlanes>,
+) -> std::result::Result<Option<JointPlanes>, AllocError>
+    requires { IfSome joint.now IsFullJoint }
+    ensures full { IfOk result (λ copy. IfSome copy IsFullJoint) }
+    ensures same { IfOk result (λ copy. joint_in copy ≡ joint_in joint.now) }
+{
+    match joint {
+        Some(joint) => Ok(Some(joint.copied(alloc)?)),
+        None => Ok(None),
+    }
+}
+
 impl Planes {
     ghost use Rattle.std.specs.Prelude.{◌≡◌, ◌<◌, ◌+◌, IfOk, IfSome, None, Some, drop, is_some};
     ghost use Rattle.std.specs.Prelude.{option_map, replicate, slice_index_or, slice_set, true};
@@ -67,6 +83,16 @@ impl Planes {
             own: [None, None, None, None],
             joint: None,
         }
+    }
+
+    /// Copies the planes. The only error is a refused allocation.
+    pub fn copied(&self, alloc: Global) -> std::result::Result<Planes, AllocError>
+        ensures { IfOk result (λ planes. planes ≡ self.now) }
+    {
+        Ok(Planes {
+            own: copied_lists(alloc, &self.own)?,
+            joint: copied_joint(alloc, &self.joint)?,
+        })
     }
 
     /// Returns whether the plane of a component is decided.

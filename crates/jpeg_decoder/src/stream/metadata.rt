@@ -1,8 +1,11 @@
 //! What the segments of applications have said.
+ghost use Rattle.std.specs.Prelude.{◌≡◌, IfOk, map};
+ghost use Rattle.jpeg_segments.specs.FrameView.{chunk_in};
 
+use crate::copies::copied_list;
 use jpeg_bits::error::Result;
 use jpeg_segments::parser::{AdobeColorTransform, AppData, IccChunk};
-use std::alloc::Global;
+use std::alloc::{AllocError, Global};
 
 /// What the segments of applications have said: whether JFIF or an MJPEG frame was named, and the
 /// last Adobe transform, Exif, XMP and Photoshop data; parts of ICC profiles add up.
@@ -24,8 +27,22 @@ pub struct Metadata {
     pub icc: Vec<IccChunk>,
 }
 
+/// Copies the parts of ICC profiles.
+fn copied_chunks(
+    alloc: Global,
+    chunks: &[IccChunk],
+) -> std::result::Result<Vec<IccChunk>, AllocError>
+    ensures { IfOk result (λ v. map chunk_in v.items ≡ map chunk_in chunks.now) }
+{
+    let mut copies = Vec::with_capacity(alloc, chunks.len())?;
+    for chunk in chunks {
+        copies.push(chunk.copied(alloc)?)?;
+    }
+    Ok(copies)
+}
+
 impl Metadata {
-    ghost use Rattle.std.specs.Prelude.{◌≡◌, MatchResult, option_map};
+    ghost use Rattle.std.specs.Prelude.{◌≡◌, IfOk, MatchResult, option_map};
     ghost use Rattle.jpeg_bits.specs.declared.error.Error.TheVariants.{OutOfMemory};
     ghost use Rattle.jpeg_segments.specs.FrameView.{application_in};
     ghost use Rattle.jpeg_meaning.specs.Segments.{with_application};
@@ -45,6 +62,21 @@ impl Metadata {
             psir: None,
             icc: Vec::new(alloc),
         }
+    }
+
+    /// Copies all of it. The only error is a refused allocation.
+    pub fn copied(&self, alloc: Global) -> std::result::Result<Metadata, AllocError>
+        ensures { IfOk result (λ m. metadata_in m ≡ metadata_in self.now) }
+    {
+        Ok(Metadata {
+            jfif: self.jfif,
+            avi1: self.avi1,
+            adobe: self.adobe,
+            exif: copied_list(alloc, &self.exif)?,
+            xmp: copied_list(alloc, &self.xmp)?,
+            psir: copied_list(alloc, &self.psir)?,
+            icc: copied_chunks(alloc, &self.icc)?,
+        })
     }
 
     /// Adds what the segment of an application says. If memory runs out, nothing changes.

@@ -1,10 +1,12 @@
 //! What the segments of a stream have said so far, and the segments (T.81, B.2).
+ghost use Rattle.std.specs.Prelude.{◌≡◌, IfOk, option_map};
 ghost use Rattle.jpeg_bits.specs.Reading.{NamesFormat};
+ghost use Rattle.jpeg_segments.specs.FrameView.{frame_in};
 
 use crate::scan::decoded::Decoded;
 use crate::stream::frames::check_frame;
 use crate::stream::metadata::Metadata;
-use crate::stream::tables::update;
+use crate::stream::tables::{copied_tables, update};
 use jpeg_bits::error::{Error, Result, UnsupportedFeature, format_error, format_error_of};
 use jpeg_bits::huffman::HuffmanTable;
 use jpeg_bits::marker::Marker;
@@ -14,7 +16,7 @@ use jpeg_meaning::before::Before;
 use jpeg_segments::parser::{
     FrameInfo, parse_app, parse_dqt, parse_dri, parse_sof, read_huffman_tables,
 };
-use std::alloc::Global;
+use std::alloc::{AllocError, Global};
 use std::io::Read;
 use std::marker::Model;
 
@@ -51,6 +53,38 @@ impl Model for Said {
 
     // Each AC table is of class AC.
     ghost invariant = { λ s. all_ac s.ac_tables ≡ true };
+}
+
+/// Copies a frame, if there is one. The only error is a refused allocation.
+fn copied_frame(
+    alloc: Global,
+    frame: &Option<FrameInfo>,
+) -> std::result::Result<Option<FrameInfo>, AllocError>
+    ensures { IfOk result (λ copy. option_map frame_in copy ≡ option_map frame_in frame.now) }
+{
+    match frame {
+        Some(frame) => Ok(Some(frame.copied(alloc)?)),
+        None => Ok(None),
+    }
+}
+
+impl Said {
+    ghost use Rattle.std.specs.Prelude.{◌≡◌, IfOk};
+
+    /// Copies all of it. The only error is a refused allocation.
+    pub fn copied(&self, alloc: Global) -> std::result::Result<Said, AllocError>
+        ensures { IfOk result (λ said. said ≡ self.now) }
+    {
+        Ok(Said {
+            frame: copied_frame(alloc, &self.frame)?,
+            quantization: self.quantization,
+            dc_tables: copied_tables(alloc, &self.dc_tables)?,
+            ac_tables: copied_tables(alloc, &self.ac_tables)?,
+            restart_interval: self.restart_interval,
+            scanned: self.scanned,
+            metadata: self.metadata.copied(alloc)?,
+        })
+    }
 }
 
 /// What has been found in a stream so far.
@@ -92,8 +126,9 @@ pub const ONWARD: Step = Step {
 };
 
 impl State {
-    ghost use Rattle.std.specs.Prelude.{◌≡◌, false};
+    ghost use Rattle.std.specs.Prelude.{◌≡◌, IfErr, IfOk, false};
     ghost use Rattle.jpeg_bits.specs.Reading.{Answers};
+    ghost use Rattle.jpeg_bits.specs.declared.error.Error.TheVariants.{OutOfMemory};
     ghost use Rattle.jpeg_bits.specs.declared.marker.Marker.TheVariants.{RST};
     ghost use Rattle.jpeg_meaning.specs.Segments.{quantization_segment, frame_segment};
     ghost use Rattle.jpeg_meaning.specs.Segments.{restart_segment, huffman_segment};
@@ -122,6 +157,17 @@ impl State {
             },
             decoded: Decoded::new(alloc),
         }
+    }
+
+    /// Copies all of it: as many blocks are stored. The only error is `OutOfMemory`.
+    pub fn copied(&self, alloc: Global) -> Result<State>
+        ensures same { IfOk result (λ state. state ≡ self.now) }
+        ensures err { IfErr result (λ e. e ≡ OutOfMemory) }
+    {
+        Ok(State {
+            said: self.said.copied(alloc)?,
+            decoded: self.decoded.copied(alloc)?,
+        })
     }
 
     /// Reads a frame header (T.81, B.2.2).

@@ -1,12 +1,13 @@
 //! Tables by their destinations.
-ghost use Rattle.std.specs.Prelude.{◌≡◌, None, length, slice_index_or, Some, MatchResult};
+ghost use Rattle.std.specs.Prelude.{◌≡◌, IfOk, None, length, slice_index_or, Some, MatchResult};
 ghost use Rattle.std.specs.Option.{option_copied};
 ghost use Rattle.jpeg_meaning.specs.Segments.{updated};
 ghost use Rattle.jpeg_bits.specs.Reading.{NamesFormat};
 
 use jpeg_bits::error::{Error, Result, format_error_of};
+use jpeg_bits::huffman::HuffmanTable;
 use jpeg_bits::marker::Marker;
-use std::alloc::Global;
+use std::alloc::{AllocError, Global};
 use std::fmt;
 
 /// Puts the tables that were read in place of those that were there.
@@ -19,6 +20,34 @@ pub fn update<T: Drop>(old: &mut [Option<T>], new: &mut [Option<T>])
             old[destination] = Some(table);
         }
     }
+}
+
+/// Copies a table, if there is one. The only error is a refused allocation.
+fn copied_table(
+    alloc: Global,
+    table: &Option<HuffmanTable>,
+) -> std::result::Result<Option<HuffmanTable>, AllocError>
+    ensures { IfOk result (λ copy. copy ≡ table.now) }
+{
+    match table {
+        Some(table) => Ok(Some(table.copied(alloc)?)),
+        None => Ok(None),
+    }
+}
+
+/// Copies the tables of a class. The only error is a refused allocation.
+pub fn copied_tables(
+    alloc: Global,
+    tables: &[Option<HuffmanTable>; 4],
+) -> std::result::Result<[Option<HuffmanTable>; 4], AllocError>
+    ensures { IfOk result (λ copies. copies ≡ tables.now) }
+{
+    Ok([
+        copied_table(alloc, &tables[0])?,
+        copied_table(alloc, &tables[1])?,
+        copied_table(alloc, &tables[2])?,
+        copied_table(alloc, &tables[3])?,
+    ])
 }
 
 /// Returns the table at a destination.

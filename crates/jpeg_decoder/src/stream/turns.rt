@@ -13,7 +13,7 @@ ghost use Rattle.jpeg_bits.specs.declared.marker.Marker.TheVariants.{SOS};
 ghost use Rattle.jpeg_decoder.specs.Reaching.{OnFault, without_tables};
 ghost use Rattle.jpeg_decoder.specs.Steps.{IsStep, turn_of};
 ghost use Rattle.jpeg_decoder.specs.Walks.{AfterWalk, IsGoing, IsKnownIf, Leaves, OfWalk, known_if};
-ghost use Rattle.jpeg_decoder.specs.Walks.{walk_for, walk_over, walked_to};
+ghost use Rattle.jpeg_decoder.specs.Walks.{steps_for, steps_over, walk_for, walk_over, walked_to};
 ghost use Rattle.std.specs.Prelude.{IfSome, Ok, OnErr, Option, false};
 ghost use Rattle.jpeg_decoder.specs.ByRows.{AreSameScans, GoesOnAtScan, scan_ahead, to_scan_of};
 ghost use Rattle.jpeg_decoder.specs.ByRows.{to_turn, to_turn_of, walk_after, walk_on};
@@ -90,7 +90,7 @@ fn marker_error(alloc: Global, marker: Marker) -> Error
 /// Reads the marker after a step, which may have been reached already, and what stands after it:
 /// see `read_scan` for a scan.
 #[tactic(auto, unfolding(crate::proofs::Rules::turns))]
-fn read_turn<R: Read + Drop>(
+pub fn read_turn<R: Read + Drop>(
     alloc: Global,
     source: &mut Source<R>,
     state: &mut State,
@@ -185,6 +185,48 @@ pub fn read_to_scan<R: Read + Drop>(
     Err(format_error(alloc, "found 2^64 markers, expected EOI"))
 }
 
+/// Reads segments and scans after a step up to the end of the image or the first fault. Where what
+/// is read of a scan before its first fault counts and lacks some blocks or lines, `walk` says how
+/// many rows of the picture are complete.
+pub fn read_from<R: Read + Drop>(
+    alloc: Global,
+    source: &mut Source<R>,
+    state: &mut State,
+    first: Step,
+    beyond: Beyond,
+    walk: &mut Walk,
+) -> Result<()>
+    requires sound { IsSound state.old }
+    requires going { IsGoing walk.old }
+    ensures reads { (k : Bool) → IsKnownIf k 1 source.old → OfWalk beyond result (Answers
+        (λ _. state.new)
+        (λ bytes. walked_to (steps_over walk.old.budget.left beyond state.old first bytes))
+        (known_if k source.old) result source.new) }
+    ensures leaves { (k : Bool) → IsKnownIf k 1 source.old
+        → OnTold (known_if k source.old) source.new result (let w = steps_over
+        walk.old.budget.left beyond state.old first source.old.bytes in
+        Leaves beyond state.new walk.new.rows w.found w.rows) }
+    ensures turns { (k : Bool) → IsKnownIf k 1 source.old → k ≡ true → IsOfTurns (λ n. told_of
+        (steps_for walk.old.budget.left beyond n state.old first
+        source.old.bytes).found.said) (told_of state.new.said) }
+    ensures exceeded { (k : Bool) → IsKnownIf k 1 source.old
+        → OnTold (known_if k source.old) source.new result (walk.new.budget.exceeded
+        ≡ (steps_over walk.old.budget.left beyond state.old first source.old.bytes).exceeded) }
+    ensures framed { IfOk result (λ _. is_some state.new.said.frame ≡ true) }
+    ensures stays { is_some state.old.said.frame ≡ true
+        → state.new.said.frame ≡ state.old.said.frame }
+    ensures sound { AfterWalk beyond result (IsSound state.new) }
+{
+    let mut last = first;
+    for _ in 0..=u64::MAX {
+        last = read_turn(alloc, source, state, last, beyond, walk)?;
+        if last.ended {
+            return Ok(());
+        }
+    }
+    Err(format_error(alloc, "found 2^64 markers, expected EOI"))
+}
+
 /// Reads segments and scans after a step up to the end of the image.
 pub fn read_on<R: Read + Drop>(
     alloc: Global,
@@ -212,14 +254,7 @@ pub fn read_on<R: Read + Drop>(
         → state.new.said.frame ≡ state.old.said.frame }
     ensures sound { OnOk result (IsSound state.new) }
 {
-    let mut last = first;
-    for _ in 0..=u64::MAX {
-        last = read_turn(alloc, source, state, last, Beyond::Zeros, walk)?;
-        if last.ended {
-            return Ok(());
-        }
-    }
-    Err(format_error(alloc, "found 2^64 markers, expected EOI"))
+    read_from(alloc, source, state, first, Beyond::Zeros, walk)
 }
 
 /// Returns whether only the header is wanted, and the frame was read.

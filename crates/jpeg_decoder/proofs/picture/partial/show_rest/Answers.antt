@@ -17,6 +17,7 @@ use Rattle.jpeg_decoder.proofs.Partial.ShownRows.{rest-counted}
 use Rattle.jpeg_decoder.proofs.Partial.ShownTold.{rest-told}
 use Rattle.jpeg_decoder.proofs.picture.partial.show_rest.Given as given
 use Rattle.jpeg_decoder.proofs.picture.partial.show_rest.Goals.{After-read_segments-ended, After-show_found}
+use Rattle.jpeg_meaning.specs.Shown.{shown_rest_within, whole_rows_rest}
 use Rattle.jpeg_meaning.specs.Stream.{all_brought}
 use Rattle.jpeg_decoder.proofs.picture.partial.show_rest.Goals as goal
 
@@ -51,8 +52,10 @@ show_found-requires g c =
     }
 
 pub returns-clause-shown : goal.returns-clause-shown
+unfolding shown_rest_within
 returns-clause-shown g c =
-    rest-shown {X = PartialLines} (λ p. concat p.lines) (λ p. p.fault) c.args.settings c.args.state.now
+    rest-shown {X = PartialLines} (λ p. concat p.lines) (λ p. p.fault) c.args.settings
+    (λ bytes. all_brought c.args.settings.max_blocks c.args.state.now bytes)
     c.read_segments-ended.new.state
     (found_of c.state.inside.said c.replace-decoded.result) c.args.source.now
     c.read_segments-ended.new.source c.read_segments-ended.result c.err.result c.show_found.result _
@@ -62,8 +65,10 @@ returns-clause-shown g c =
     c.show_found.ensures.shown
 
 pub returns-clause-rows : goal.returns-clause-rows
+unfolding whole_rows_rest
 returns-clause-rows g c =
-    rest-counted {X = PartialLines} (λ p. p.whole_rows) c.args.settings.max_blocks c.args.state.now
+    rest-counted {X = PartialLines} (λ p. p.whole_rows)
+    (λ bytes. all_brought c.args.settings.max_blocks c.args.state.now bytes)
     c.read_segments-ended.new.state
     (found_of c.state.inside.said c.replace-decoded.result) c.args.source.now
     c.read_segments-ended.new.source c.read_segments-ended.result c.read_segments-ended.new.walk.rows
