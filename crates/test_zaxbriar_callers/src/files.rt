@@ -4,10 +4,10 @@ ghost use Rattle.std.specs.Io.KnownBytes.{Appends};
 ghost use Rattle.jpeg_meaning.specs.Output.{Tells};
 ghost use Rattle.zaxbriar_pictures.specs.Crops.{fits, fits_raw};
 ghost use Rattle.zaxbriar_pictures.specs.Allowed.{allows, allows_raw};
-ghost use Rattle.zaxbriar_pictures.specs.Given.{CodesWithin, WritesGiven, shown_at_scale};
+ghost use Rattle.zaxbriar_pictures.specs.ByRows.{read_at_scale, read_raw};
+ghost use Rattle.zaxbriar_pictures.specs.Given.{CodesWithin, WritesGiven};
 ghost use Rattle.zaxbriar_pictures.specs.Raw.{raw_of};
-ghost use Rattle.zaxbriar_pictures.specs.Reasons.{IsReason, LacksColours, meaning_within_limits};
-ghost use Rattle.zaxbriar_pictures.specs.ScaledPictures.{settings_for};
+ghost use Rattle.zaxbriar_pictures.specs.Reasons.{IsReason, LacksColours};
 ghost use Rattle.zaxbriar_samples.specs.Netpbm.{file_of};
 ghost use Rattle.zaxbriar_samples.specs.Png.{adler_byte, filtered_line, line_chunk};
 ghost use Rattle.zaxbriar_pictures.specs.Thumbnails.{WritesThumbnail};
@@ -65,9 +65,8 @@ pub fn picture_at<R: Read + Drop, W: Write>(
         → IfOk result (WritesGiven extent limits at format bytes (W.contents writer.old)
         (W.contents writer.new)) }
     ensures refused { (bytes : List ℕ) → Tells (R.remaining reader) bytes → IfErr result (IsReason
-        (shown_at_scale extent at.luma limits at.scale bytes) (allows (At at) format limits bytes)
-        (fits at bytes) (LacksColours format (settings_for at.luma)
-        (shown_at_scale extent at.luma limits at.scale bytes))) }
+        (read_at_scale extent limits at format bytes) (allows (At at) format limits bytes)
+        (fits at bytes) (LacksColours format at.luma bytes)) }
 {
     write_at(alloc, reader, at, extent, limits, format, writer)
 }
@@ -106,7 +105,7 @@ pub fn pixels<R: Read + Drop, W: Write>(
     ensures bounded { (bytes : List ℕ) → Tells (R.remaining reader) bytes
         → OnOk result (CodesWithin limits bytes) }
     ensures refused { (bytes : List ℕ) → Tells (R.remaining reader) bytes
-        → IfErr result (IsReason (meaning_within_limits luma limits bytes)
+        → IfErr result (IsReason (read_raw luma turning limits bytes)
         (allows_raw luma turning limits bytes) (fits_raw luma turning crop bytes) ⊥) }
 {
     write_raw(alloc, reader, turning, luma, crop, limits, writer)

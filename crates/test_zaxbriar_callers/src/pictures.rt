@@ -1,55 +1,42 @@
 //! Callers that read a picture, or check a stream.
-ghost use Rattle.std.specs.Prelude.{◌≡◌, ℕ, List, Some, IfOk, is_some, not};
-ghost use Rattle.std.specs.List.{concat};
+ghost use Rattle.std.specs.Prelude.{◌≡◌, ℕ, List, IfOk, IsSomeAnd, is_some, not};
+ghost use Rattle.std.specs.Io.KnownBytes.{Appends};
 ghost use Rattle.jpeg_meaning.specs.Output.{Tells};
 ghost use Rattle.jpeg_meaning.specs.States.{HasHeader};
-ghost use Rattle.zaxbriar_pictures.specs.Given.{IsGiven, TellsOfStream, is_whole, most_after};
-ghost use Rattle.zaxbriar_samples.specs.DecodedPictures.{decoded};
-ghost use Rattle.zaxbriar_pictures.specs.ScaledPictures.{picture_at_scale};
-ghost use Rattle.zaxbriar_samples.specs.Sizes.{luma_for};
+ghost use Rattle.zaxbriar_pictures.specs.Given.{TellsOfStream, is_whole, most_after};
+ghost use Rattle.zaxbriar_samples.specs.Files.{file_as};
+ghost use Rattle.zaxbriar_samples.specs.Parts.{shown_part};
+ghost use Rattle.zaxbriar_pictures.specs.ScaledPictures.{header_exif, picture_at_scale};
+ghost use Rattle.zaxbriar_samples.specs.Sizes.{orientation_for};
+ghost use Rattle.zaxbriar_samples.specs.declared.requests.Request.TheVariants.{At};
 
 use jpeg_decoder::Decoder;
 use std::alloc::Global;
-use std::io::Read;
+use std::io::{Read, Write};
 use zaxbriar_files::limits::Limits;
 use zaxbriar_files::refusal::Refusal;
 use zaxbriar_pictures::check::check_stream;
 use zaxbriar_pictures::extents::{Completeness, Extent};
-use zaxbriar_pictures::scaled::{ScaledLines, limit_blocks, read_lines};
+use zaxbriar_pictures::scaled::{limit_blocks, write_at};
 use zaxbriar_samples::files::PictureFormat;
-use zaxbriar_samples::requests::Request;
+use zaxbriar_samples::requests::AtScale;
 
-/// Calls `read_lines`, and says that picture, complete rows and fault are those that the stream
-/// gives at its scale within the limits.
-pub fn scaled_picture<R: Read + Drop>(
-    alloc: Global,
-    reader: R,
-    request: Request,
-    format: PictureFormat,
-    extent: Extent,
-    limits: Limits,
-) -> Result<ScaledLines, Refusal>
-    ensures { (bytes : List ℕ) → Tells (R.remaining reader) bytes
-        → IfOk result (λ made. IsGiven extent (luma_for request) limits made.scale bytes
-        (decoded made.info made.precision (concat made.lines)) made.whole_rows made.fault) }
-{
-    read_lines(alloc, reader, request, format, extent, limits)
-}
-
-/// Reads a whole picture, and says that it is the one that the stream means at its scale, whatever
+/// Writes a whole picture, and says that it is the one that the stream means at its scale, whatever
 /// the limits.
-pub fn whole_picture<R: Read + Drop>(
+pub fn whole_picture<R: Read + Drop, W: Write>(
     alloc: Global,
     reader: R,
-    request: Request,
-    format: PictureFormat,
+    at: AtScale,
     limits: Limits,
-) -> Result<ScaledLines, Refusal>
+    format: PictureFormat,
+    writer: &mut W,
+) -> Result<Completeness, Refusal>
     ensures { (bytes : List ℕ) → Tells (R.remaining reader) bytes
-        → IfOk result (λ made. picture_at_scale (luma_for request) made.scale bytes
-        ≡ Some (decoded made.info made.precision (concat made.lines))) }
+        → IfOk result (λ _. IsSomeAnd (picture_at_scale at.luma at.scale bytes) (λ p. IsSomeAnd
+        (file_as format (shown_part at.crop (orientation_for (At at) (header_exif bytes)) p))
+        (Appends (W.contents writer.old) (W.contents writer.new)))) }
 {
-    scaled_picture(alloc, reader, request, format, Extent::Whole, limits)
+    write_at(alloc, reader, at, Extent::Whole, limits, format, writer)
 }
 
 /// Calls `limit_blocks`, and says which limit it sets.

@@ -1,5 +1,5 @@
 -- Whether the part that is asked for fits is what the header says.
-use Rattle.std.proofs.Common.{◌≡◌, ◌∙◌, ℕ, List, Ok, Option, Some, None, option_map, ap, subst, sym, Bool, true, false, IfSome}
+use Rattle.std.proofs.Common.{◌≡◌, ◌∙◌, ℕ, List, Ok, Option, Some, None, option_map, ap, subst, sym, Bool, false}
 use Rattle.std.specs.Prelude.{unwrap_or}
 use Rattle.jpeg_segments.specs.Frame.{Frame}
 use Rattle.jpeg_segments.specs.Scales.{scaled}
@@ -81,20 +81,6 @@ outside-reason fitting outcome allowed fitted lacks (refusals.Memory bytes most 
 pub said-there : {A : Type 0} (said : Frame → A) (old new : Option Frame) (x : A) → new ≡ old
     → option_map said old ≡ Some x → option_map said new ≡ Some x
 said-there {A} said old new x same h = subst (λ (f : Option Frame). option_map said f ≡ Some x) (sym same) h
-
-pub fits-if-some : (crop : Option Area) (orientation : ℕ) (settings : Settings) (frame : Option Frame) (info : ImageInfo)
-    → option_map (info_by settings) frame ≡ Some info → has_part crop orientation info ≡ true
-    → IfSome frame (λ f. has_part crop orientation (info_by settings f) ≡ true)
-fits-if-some crop orientation settings None info i h = tt
-fits-if-some crop orientation settings (Some f) info i h =
-    subst (λ (k : ImageInfo). has_part crop orientation k ≡ true) (sym (some-same (info_by settings f) info i)) h
-
-pub fits-some : (crop : Option Area) (orientation : ℕ) (settings : Settings) (frame : Option Frame) (info : ImageInfo)
-    → option_map (info_by settings) frame ≡ Some info → IfSome frame (λ f. has_part crop orientation (info_by settings f) ≡ true)
-    → has_part crop orientation info ≡ true
-fits-some crop orientation settings None info i h = absurd (let n : ⊥ = cc in n)
-fits-some crop orientation settings (Some f) info i h =
-    subst (λ (k : ImageInfo). has_part crop orientation k ≡ true) (some-same (info_by settings f) info i) h
 
 -- What is said at a scale by the settings of a decoder.
 pub said-at-scale : (luma : Bool) (limits : Limits) (scale : Scale) (header : Found) (d : Decoding) (info : ImageInfo)

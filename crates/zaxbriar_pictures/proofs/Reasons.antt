@@ -1,44 +1,46 @@
 -- Why nothing is made of a stream, by what each step of reading it says.
-use Rattle.std.proofs.Common.{◌≡◌, ◌∙◌, ◌⊎◌, inl, inr, ℕ, List, Bool, true, false, Option, Some, None, Result, Ok, Err}
+use Rattle.std.proofs.Common.{◌≡◌, ◌∙◌, inl, inr, ℕ, List, Bool, true, false, Option, Some, None, Result, Ok, Err}
 use Rattle.std.proofs.Common.{IsSomeAnd, option_map, ap, refl, subst, sym}
-use Rattle.std.specs.Prelude.{◌==◌, if◌then◌else◌, IfErr, IsOkAnd, unwrap_or}
+use Rattle.std.specs.Prelude.{◌==◌, if◌then◌else◌, unwrap_or}
 use Rattle.jpeg_bits.specs.Reading.{End, Fault, IsGivenUp, Lacks, Malformed, Names, Outcome, ◌>>=◌}
 use Rattle.jpeg_bits.specs.Stream.{Stream}
 use Rattle.jpeg_bits.specs.declared.error.Error.{Error}
 use Rattle.jpeg_bits.specs.declared.error.Error.TheVariants as errors
 use Rattle.jpeg_segments.specs.Frame.{Frame}
+use Rattle.jpeg_segments.specs.Scales.{block_side, frame_at, scaled, scaled_by}
+use Rattle.jpeg_segments.specs.declared.frame.CodingProcess.{CodingProcess}
+use Rattle.jpeg_segments.specs.declared.frame.CodingProcess.TheVariants.{DctProgressive, DctSequential, Lossless}
 use Rattle.jpeg_segments.specs.declared.scale.Scale.{Scale}
 use Rattle.jpeg_segments.specs.declared.scale.Scale.TheVariants.{Full}
 use Rattle.jpeg_meaning.proofs.Written.ReadTurns.{then-ok}
 use Rattle.jpeg_meaning.specs.Found.{Found, with_said}
 use Rattle.jpeg_meaning.specs.Output.{IsOutsideOrMemory}
-use Rattle.jpeg_meaning.specs.Pixels.{info_by}
-use Rattle.jpeg_meaning.specs.Shown.{Shown}
+use Rattle.jpeg_meaning.specs.Pixels.{format_of, info_by, luma_samples}
 use Rattle.jpeg_meaning.specs.States.{Decoding}
-use Rattle.jpeg_meaning.specs.Stream.{Told, header_at, rest_by, scaled_to}
-use Rattle.jpeg_decoder.specs.Reaching.{NamesFault}
+use Rattle.jpeg_meaning.specs.Stream.{Told, header_at, scaled_to}
 use Rattle.jpeg_meaning.specs.declared.images.ImageInfo.{ImageInfo}
 use Rattle.jpeg_meaning.specs.declared.images.PixelFormat.{PixelFormat}
 use Rattle.jpeg_meaning.specs.declared.settings.Settings.{Settings}
 use Rattle.zaxbriar_files.specs.declared.limits.Limits.{Limits}
 use Rattle.zaxbriar_files.specs.declared.refusal.Refusal.{Refusal}
 use Rattle.zaxbriar_files.specs.declared.refusal.Refusal.TheVariants as refusals
-use Rattle.jpeg_segments.specs.declared.frame.Dimensions.{Dimensions}
-use Rattle.zaxbriar_samples.specs.Boxes.{boxed, is_smaller, reduced_bytes, reduction_of, resized}
-use Rattle.zaxbriar_samples.specs.DecodedPictures.{Decoded, decoded}
 use Rattle.zaxbriar_samples.specs.Files.{has_pixels}
 use Rattle.zaxbriar_samples.specs.Sizes.{luma_for, orientation_by, orientation_for, scale_of_request, size_for}
-use Rattle.zaxbriar_samples.specs.Turns.{bytes_of, turn_by, turned_info, turned_pixels, upright}
+use Rattle.zaxbriar_samples.specs.Turns.{upright}
 use Rattle.zaxbriar_samples.specs.declared.files.PictureFormat.{PictureFormat}
 use Rattle.zaxbriar_samples.specs.declared.requests.Request.{Request}
 use Rattle.zaxbriar_samples.specs.declared.requests.Request.TheVariants.{At, Within}
-use Rattle.zaxbriar_pictures.specs.Given.{IsGiven, complete_rows, given, given_at_scale, given_of, given_rest}
+use Rattle.zaxbriar_pictures.specs.Given.{given_rest}
 use Rattle.zaxbriar_pictures.specs.Given.{given_within, settings_within, shown_at_scale}
-use Rattle.zaxbriar_pictures.specs.Reasons.{IsReason, LacksColours, NamesOrOutside, RefusesPicture}
-use Rattle.zaxbriar_pictures.specs.Reasons.{meaning_within_limits, scale_in, shown_for}
-use Rattle.zaxbriar_pictures.specs.ScaledPictures.{decoded_of, header_exif, header_info, settings_for}
-use Rattle.zaxbriar_pictures.specs.Steps.{IsChoice, RefusesFile}
+use Rattle.zaxbriar_pictures.specs.ByRows.{at_by_rows, is_by_rows, raw_rest, read_at_scale, read_for, read_raw, read_rest}
+use Rattle.zaxbriar_pictures.specs.ByRows.{read_within, request_by_rows}
+use Rattle.zaxbriar_pictures.specs.Reasons.{IsReason, LacksColours, NamesOrOutside, scale_in}
+use Rattle.zaxbriar_pictures.specs.ScaledPictures.{header_info, settings_for}
+use Rattle.zaxbriar_pictures.specs.Steps.{IsChoice}
 use Rattle.zaxbriar_pictures.specs.declared.extents.Extent.{Extent}
+use Rattle.zaxbriar_samples.specs.declared.requests.AtScale.{AtScale}
+use Rattle.zaxbriar_samples.specs.declared.requests.Upright.{Upright}
+use Rattle.std.proofs.lemmas.List.{length-map}
 use Rattle.zaxbriar_pictures.specs.declared.scaled.Choice.{Choice}
 
 -- ---- errors of a decoder
@@ -66,9 +68,6 @@ answered outcome old new e names given_up known =
 pub named-same : {Y : Type 0} (old new : Result Y Fault) (e : Error) → old ≡ new → NamesOrOutside old e
     → NamesOrOutside new e
 named-same {Y} old new e same h = subst (λ (o : Result Y Fault). NamesOrOutside o e) same h
-
-pub of-memory : {Y : Type 0} (outcome : Result Y Fault) (e : Error) → e ≡ errors.OutOfMemory → NamesOrOutside outcome e
-of-memory outcome e h = rw h (inr tt)
 
 -- ---- a fault of the first step is one of both
 
@@ -101,17 +100,6 @@ reason-then refusals.Cmyk outcome next allowed fits lacks h = absurd h
 
 -- ---- the second step
 
--- A reason that is no limit is one whatever the limits allow.
-pub reason-allowed : {Y : Type 0} (r : Refusal) (outcome : Result Y Fault) (allowed fits : Bool) (lacks : Type 0)
-    → IsReason outcome true true lacks r → IsReason outcome allowed fits lacks r
-reason-allowed (refusals.Decoding e) outcome allowed fits lacks h = h
-reason-allowed (refusals.Pixels pixels most) outcome allowed fits lacks h = absurd (let n : ⊥ = cc in n)
-reason-allowed (refusals.Memory bytes most is_share) outcome allowed fits lacks h = absurd (let n : ⊥ = cc in n)
-reason-allowed (refusals.Crop area width height) outcome allowed fits lacks h = absurd (let n : ⊥ = cc in n)
-reason-allowed (refusals.Format format) outcome allowed fits lacks h = absurd h
-reason-allowed refusals.Name outcome allowed fits lacks h = absurd h
-reason-allowed refusals.Cmyk outcome allowed fits lacks h = h
-
 -- What the rest shows after a header is what the stream shows.
 pub shown-is : (extent : Extent) (luma : Bool) (limits : Limits) (scale : Scale) (bytes : List ℕ) (found : Found)
     (old : Decoding) → header_at bytes ≡ Ok (found, old.source.bytes)
@@ -122,39 +110,10 @@ shown-is extent luma limits scale bytes found old header is within =
     ∙ ap (λ (f : Found). given_within extent luma limits f old.source.bytes) is
     ∙ sym (then-ok (header_at bytes) _ (found, old.source.bytes) _ header refl)
 
-pub refused-at-scale : (extent : Extent) (luma : Bool) (limits : Limits) (scale : Scale) (bytes : List ℕ) (found : Found)
-    (old : Decoding) (format : PictureFormat) (allowed fits : Bool) (r : Refusal)
-    → header_at bytes ≡ Ok (found, old.source.bytes)
-    → old.found ≡ with_said (scaled_to scale) found → old.settings ≡ settings_within luma limits old.found
-    → RefusesFile extent format old r
-    → IsReason (shown_at_scale extent luma limits scale bytes) allowed fits
-    (LacksColours format (settings_for luma) (shown_at_scale extent luma limits scale bytes)) r
-refused-at-scale extent luma limits scale bytes found old format allowed fits r header is within h =
-    let rest = given_rest extent old.settings old.found old.source.bytes in
-    let all = reason-allowed r rest allowed fits (LacksColours format old.settings rest) h in
-    let set : IsReason rest allowed fits (LacksColours format (settings_for luma) rest) r =
-    subst (λ (settings : Settings). IsReason rest allowed fits (LacksColours format settings rest) r) within all in
-    subst (λ (shown : Result Shown Fault). IsReason shown allowed fits (LacksColours format (settings_for luma) shown) r)
-    (shown-is extent luma limits scale bytes found old header is within) set
+-- ---- what is there
 
--- ---- a format lacks colours
-
-some-same : {A : Type 0} (x y : A) → ◌≡◌ {A = Option A} (Some x) (Some y) → x ≡ y
+pub some-same : {A : Type 0} (x y : A) → ◌≡◌ {A = Option A} (Some x) (Some y) → x ≡ y
 some-same x y e = cc
-
-pub lacks-there : (settings : Settings) (format : PictureFormat) (rest : Result Shown Fault) (s : Shown) (t : Told)
-    (info : ImageInfo) → rest ≡ Ok s → t ≡ s.told → option_map (info_by settings) t.frame ≡ Some info
-    → has_pixels format info.pixel_format ≡ false → LacksColours format settings rest
-lacks-there settings format rest s t info is told i none =
-    subst (λ (o : Result Shown Fault). LacksColours format settings o) (sym is)
-    (subst (λ (u : Told). IsSomeAnd u.frame (λ f. has_pixels format (info_by settings f).pixel_format ≡ false)) told
-    (go t.frame i))
-  where
-    go : (frame : Option Frame) → option_map (info_by settings) frame ≡ Some info
-        → IsSomeAnd frame (λ f. has_pixels format (info_by settings f).pixel_format ≡ false)
-    go None i = absurd (let n : ⊥ = cc in n)
-    go (Some f) i = subst (λ (k : ImageInfo). has_pixels format k.pixel_format ≡ false)
-        (sym (some-same (info_by settings f) info i)) none
 
 -- ---- the scale for a request
 
@@ -179,27 +138,76 @@ choice-scale (Within most upright) header choice is = go header.said.frame is.si
     go (Some f) h = h.1 ∙ ap (λ (o : ℕ). scale_of_request (Within most upright) (info_by (settings_for false) f) o)
         is.turned
 
--- What the rest shows after a header is what the stream shows for a request.
-pub shown-for-is : (extent : Extent) (limits : Limits) (request : Request) (choice : Choice) (bytes : List ℕ)
-    (found : Found) (old : Decoding) → header_at bytes ≡ Ok (found, old.source.bytes)
-    → old.found ≡ with_said (scaled_to choice.scale) found
-    → old.settings ≡ settings_within (luma_for request) limits old.found → IsChoice request found choice
-    → given_rest extent old.settings old.found old.source.bytes ≡ shown_for extent limits request bytes
-shown-for-is extent limits request choice bytes found old header is within chosen =
-    ap (λ (settings : Settings). given_rest extent settings old.found old.source.bytes) within
-    ∙ ap (λ (f : Found). given_within extent (luma_for request) limits f old.source.bytes)
-    (is ∙ ap (λ (scale : Scale). with_said (scaled_to scale) found) (choice-scale request found choice chosen))
+-- ---- what a stream gives, by what its header says
+
+of-frame : {A : Type 0} (said : Frame → A) (test : A → Bool) (frame : Option Frame) (x : A) (b : Bool)
+    → option_map said frame ≡ Some x → test x ≡ b → unwrap_or (option_map (λ f. test (said f)) frame) false ≡ b
+of-frame said test None x b e h = absurd (let n : ⊥ = cc in n)
+of-frame {A} said test (Some f) x b e h = ap test (some-same (said f) x e) ∙ h
+
+frame-precision : (scale : ℕ) (f : Frame) → (frame_at scale f).precision ≡ f.precision
+unfolding frame_at
+frame-precision scale f = refl
+
+pub scaled-precision : (process : CodingProcess) (scale : ℕ) (f : Frame) → (scaled_by process scale f).precision ≡ f.precision
+scaled-precision Lossless scale f = refl
+scaled-precision DctSequential scale f = frame-precision scale f
+scaled-precision DctProgressive scale f = frame-precision scale f
+
+precision-at : (scale : Scale) (frame : Option Frame) → option_map (λ f. f.precision) (option_map (scaled scale) frame)
+    ≡ option_map (λ f. f.precision) frame
+precision-at scale None = refl
+precision-at scale (Some f) = ap Some (scaled-precision f.process (block_side scale) f)
+
+-- Whether the lines of a picture at a scale come by rows.
+pub by-rows-at : (extent : Extent) (at : AtScale) (format : PictureFormat) (header : Found) (d : Decoding)
+    (precision orientation : ℕ) (b : Bool) → d.found ≡ with_said (scaled_to at.scale) header
+    → option_map (λ f. f.precision) d.found.said.frame ≡ Some precision
+    → orientation ≡ orientation_by at.upright header.said.metadata.exif
+    → is_by_rows extent format precision orientation ≡ b → at_by_rows extent at format header ≡ b
+by-rows-at extent at format header d precision orientation b is p turn h =
+    of-frame (λ f. f.precision) (λ n. is_by_rows extent format n (orientation_by at.upright header.said.metadata.exif))
+    header.said.frame precision b
+    (sym (precision-at at.scale header.said.frame)
+    ∙ subst (λ (f : Found). option_map (λ f. f.precision) f.said.frame ≡ Some precision) is p)
+    (ap (is_by_rows extent format precision) (sym turn) ∙ h)
+
+-- What the rest gives after a header is what the stream gives at a scale.
+pub read-is : (extent : Extent) (limits : Limits) (at : AtScale) (format : PictureFormat) (bytes : List ℕ)
+    (found : Found) (old : Decoding) (b : Bool) → header_at bytes ≡ Ok (found, old.source.bytes)
+    → old.found ≡ with_said (scaled_to at.scale) found → old.settings ≡ settings_within at.luma limits old.found
+    → at_by_rows extent at format found ≡ b
+    → read_rest b extent old.settings old.found old.source.bytes ≡ read_at_scale extent limits at format bytes
+read-is extent limits at format bytes found old b header is within rows =
+    ap (λ (settings : Settings). read_rest b extent settings old.found old.source.bytes) within
+    ∙ ap (λ (f : Found). read_within b extent at.luma limits f old.source.bytes) is
+    ∙ ap (λ (c : Bool). read_within c extent at.luma limits (with_said (scaled_to at.scale) found) old.source.bytes) (sym rows)
     ∙ sym (then-ok (header_at bytes) _ (found, old.source.bytes) _ header refl)
 
--- ---- the meaning within the limits
+-- and for a request
+pub read-for-is : (extent : Extent) (limits : Limits) (request : Request) (choice : Choice) (format : PictureFormat)
+    (bytes : List ℕ) (found : Found) (old : Decoding) (b : Bool) → header_at bytes ≡ Ok (found, old.source.bytes)
+    → old.found ≡ with_said (scaled_to choice.scale) found
+    → old.settings ≡ settings_within (luma_for request) limits old.found → IsChoice request found choice
+    → request_by_rows extent request format found ≡ b
+    → read_rest b extent old.settings old.found old.source.bytes ≡ read_for extent limits request format bytes
+read-for-is extent limits request choice format bytes found old b header is within chosen rows =
+    ap (λ (settings : Settings). read_rest b extent settings old.found old.source.bytes) within
+    ∙ ap (λ (f : Found). read_within b extent (luma_for request) limits f old.source.bytes)
+    (is ∙ ap (λ (scale : Scale). with_said (scaled_to scale) found) (choice-scale request found choice chosen))
+    ∙ ap (λ (c : Bool). read_within c extent (luma_for request) limits
+    (with_said (scaled_to (scale_in request found)) found) old.source.bytes) (sym rows)
+    ∙ sym (then-ok (header_at bytes) _ (found, old.source.bytes) _ header refl)
 
-pub meaning-named : (luma : Bool) (limits : Limits) (bytes rest : List ℕ) (found : Found) (e : Error)
-    → header_at bytes ≡ Ok (found, rest)
-    → NamesOrOutside (rest_by (settings_within luma limits found) found rest) e
-    → NamesOrOutside (meaning_within_limits luma limits bytes) e
-meaning-named luma limits bytes rest found e header h =
+-- and for the bytes of its picture
+pub raw-named : (luma : Bool) (turning : Upright) (limits : Limits) (bytes rest : List ℕ) (found : Found) (b : Bool)
+    (e : Error) → header_at bytes ≡ Ok (found, rest) → (orientation_by turning found.said.metadata.exif == 1) ≡ b
+    → NamesOrOutside (raw_rest b (settings_within luma limits found) found rest) e
+    → NamesOrOutside (read_raw luma turning limits bytes) e
+raw-named luma turning limits bytes rest found b e header one h =
     subst (λ (o : Outcome (Told × List ℕ)). NamesOrOutside o e)
-    (sym (then-ok (header_at bytes) _ (found, rest) _ header refl)) h
+    (sym (then-ok (header_at bytes) _ (found, rest) _ header refl))
+    (subst (λ (c : Bool). NamesOrOutside (raw_rest c (settings_within luma limits found) found rest) e) (sym one) h)
 
 -- ---- what is said by some settings
 
@@ -208,111 +216,35 @@ pub info-by-same : (old new : Settings) (frame : Option Frame) (info : ImageInfo
 info-by-same old new frame info same h =
     subst (λ (s : Settings). option_map (info_by s) frame ≡ Some info) same h
 
--- ---- thumbnails
+-- ---- a format lacks colours
 
-pub reason-lacks : {Y : Type 0} (r : Refusal) (outcome : Result Y Fault) (allowed fits : Bool) (lacks : Type 0)
-    → IsReason outcome allowed fits ⊥ r → IsReason outcome allowed fits lacks r
-reason-lacks (refusals.Decoding e) outcome allowed fits lacks h = h
-reason-lacks (refusals.Crop area width height) outcome allowed fits lacks h = h
-reason-lacks (refusals.Pixels pixels most) outcome allowed fits lacks h = h
-reason-lacks (refusals.Memory bytes most is_share) outcome allowed fits lacks h = h
-reason-lacks (refusals.Format format) outcome allowed fits lacks h = absurd h
-reason-lacks refusals.Name outcome allowed fits lacks h = absurd h
-reason-lacks refusals.Cmyk outcome allowed fits lacks h = absurd h
+frame-format : (luma : Bool) (scale : ℕ) (f : Frame)
+    → (info_by (settings_for luma) (frame_at scale f)).pixel_format ≡ (info_by (settings_for luma) f).pixel_format
+unfolding frame_at
+frame-format luma scale f =
+    ap (λ (n : ℕ). format_of (if luma then luma_samples f.process n else n) f.precision) (length-map f.components _)
 
-pub reason-picture : {Y : Type 0} (r : Refusal) (format : PictureFormat) (pixels : PixelFormat) (outcome : Result Y Fault)
-    (allowed fits : Bool) (lacks : Type 0) → RefusesPicture format pixels r → (has_pixels format pixels ≡ false → lacks)
-    → IsReason outcome allowed fits lacks r
-reason-picture (refusals.Decoding e) format pixels outcome allowed fits lacks h none = inr h
-reason-picture refusals.Cmyk format pixels outcome allowed fits lacks h none = none h
-reason-picture (refusals.Crop area width height) format pixels outcome allowed fits lacks h none = absurd h
-reason-picture (refusals.Pixels n most) format pixels outcome allowed fits lacks h none = absurd h
-reason-picture (refusals.Memory bytes most is_share) format pixels outcome allowed fits lacks h none = absurd h
-reason-picture (refusals.Format other) format pixels outcome allowed fits lacks h none = absurd h
-reason-picture refusals.Name format pixels outcome allowed fits lacks h none = absurd h
+scaled-format : (luma : Bool) (process : CodingProcess) (scale : ℕ) (f : Frame)
+    → (info_by (settings_for luma) (scaled_by process scale f)).pixel_format ≡ (info_by (settings_for luma) f).pixel_format
+scaled-format luma Lossless scale f = refl
+scaled-format luma DctSequential scale f = frame-format luma scale f
+scaled-format luma DctProgressive scale f = frame-format luma scale f
 
--- The picture keeps its colours where it is made smaller and turned.
-pub same-colours : (orientation : ℕ) (size : Dimensions) (p : Decoded)
-    → (upright orientation (boxed size p)).info.pixel_format ≡ p.info.pixel_format
-same-colours orientation size p = go (is_smaller size p.info) (orientation == 1)
+same-format : (luma : Bool) (scale : Scale) (f : Frame)
+    → (info_by (settings_for luma) (scaled scale f)).pixel_format ≡ (info_by (settings_for luma) f).pixel_format
+same-format luma scale f = scaled-format luma f.process (block_side scale) f
+
+-- What is said of the colours of a picture at a scale is said by the header.
+pub lacks-by-header : (format : PictureFormat) (luma : Bool) (scale : Scale) (bytes rest : List ℕ) (header : Found)
+    (info : ImageInfo) → header_at bytes ≡ Ok (header, rest)
+    → option_map (info_by (settings_for luma)) (option_map (scaled scale) header.said.frame) ≡ Some info
+    → has_pixels format info.pixel_format ≡ false → LacksColours format luma bytes
+unfolding header_info
+lacks-by-header format luma scale bytes rest header info e i none = rw (header_info, e) (go header.said.frame i)
   where
-    smaller : Bool → Decoded
-    smaller less = if less then decoded (resized p.info size) p.precision
-        (reduced_bytes p.pixels (reduction_of p.info p.precision size)) else p
-
-    turned : Bool → Decoded → Decoded
-    turned one d = if one then d else decoded (turned_info (turn_by d.info orientation) d.info) d.precision
-        (turned_pixels (turn_by d.info orientation) (bytes_of d.info.pixel_format d.precision) d.pixels)
-
-    go : (less one : Bool) → (turned one (smaller less)).info.pixel_format ≡ p.info.pixel_format
-    go true true = refl
-    go true false = refl
-    go false true = refl
-    go false false = refl
-
-given-lacks : (extent : Extent) (luma : Bool) (limits : Limits) (scale : Scale) (bytes : List ℕ) (picture : Decoded)
-    (rows : ℕ) (fault : Option Error) (format : PictureFormat)
-    → IsGiven extent luma limits scale bytes picture rows fault → has_pixels format picture.info.pixel_format ≡ false
-    → LacksColours format (settings_for luma) (shown_at_scale extent luma limits scale bytes)
-unfolding given_at_scale
-given-lacks extent luma limits scale bytes picture rows fault format h none =
-    go (shown_at_scale extent luma limits scale bytes) h
-  where
-    of : (s : Shown) (frame : Option Frame)
-        → IsSomeAnd (option_map (λ f. given (decoded_of luma f s.picture) s.fault) frame)
-        (λ g. (picture ≡ g.picture) × NamesFault fault g.fault
-        × (rows ≡ complete_rows extent limits scale bytes g.picture.info.height))
-        → IsSomeAnd frame (λ f. has_pixels format (info_by (settings_for luma) f).pixel_format ≡ false)
-    of s None h = absurd h
-    of s (Some f) h = subst (λ (d : Decoded). has_pixels format d.info.pixel_format ≡ false) h.0 none
-
-    go : (r : Result Shown Fault) → IsSomeAnd (elim r [
-      | Ok s ↦ given_of luma s
-      | Err f ↦ None
-    ]) (λ g. (picture ≡ g.picture) × NamesFault fault g.fault
-        × (rows ≡ complete_rows extent limits scale bytes g.picture.info.height))
-        → LacksColours format (settings_for luma) r
-    go (Err f) h = absurd h
-    go (Ok s) h = of s s.told.frame h
-
--- What is shown at the scale that was chosen for a request is what is shown for it.
-shown-chosen : (extent : Extent) (limits : Limits) (request : Request) (choice : Choice) (bytes : List ℕ)
-    → IsSomeAnd (header_info (luma_for request) bytes) (λ full. (choice.full ≡ full)
-    × (choice.scale ≡ scale_of_request request full choice.orientation)
-    × (choice.size ≡ size_for request full choice.orientation))
-    → choice.orientation ≡ orientation_for request (header_exif bytes)
-    → shown_at_scale extent (luma_for request) limits choice.scale bytes ≡ shown_for extent limits request bytes
-unfolding header_info header_exif
-shown-chosen extent limits request choice bytes sized turned = go (header_at bytes) sized turned
-  where
-    go : (r : Outcome Found) → IsSomeAnd (elim r [
-      | Ok header ↦ option_map (info_by (settings_for (luma_for request))) header.0.said.frame
-      | Err fault ↦ None
-    ]) (λ full. (choice.full ≡ full) × (choice.scale ≡ scale_of_request request full choice.orientation)
-        × (choice.size ≡ size_for request full choice.orientation))
-        → choice.orientation ≡ orientation_for request (elim r [
-          | Ok header ↦ header.0.said.metadata.exif
-          | Err fault ↦ None
-        ])
-        → (r >>= (λ header. given_within extent (luma_for request) limits
-        (with_said (scaled_to choice.scale) header.0) header.1))
-        ≡ (r >>= (λ header. given_within extent (luma_for request) limits
-        (with_said (scaled_to (scale_in request header.0)) header.0) header.1))
-    go (Err fault) sized turned = absurd sized
-    go (Ok header) sized turned =
-        ap (λ (scale : Scale). given_within extent (luma_for request) limits (with_said (scaled_to scale) header.0)
-        header.1) (choice-scale request header.0 choice (record { sized = sized; turned = turned }))
-
-pub thumbnail-lacks : (extent : Extent) (limits : Limits) (request : Request) (choice : Choice) (bytes : List ℕ)
-    (picture : Decoded) (rows : ℕ) (fault : Option Error) (format : PictureFormat)
-    → IsGiven extent (luma_for request) limits choice.scale bytes picture rows fault
-    → IsSomeAnd (header_info (luma_for request) bytes) (λ full. (choice.full ≡ full)
-    × (choice.scale ≡ scale_of_request request full choice.orientation)
-    × (choice.size ≡ size_for request full choice.orientation))
-    → choice.orientation ≡ orientation_for request (header_exif bytes)
-    → has_pixels format picture.info.pixel_format ≡ false
-    → LacksColours format (settings_for (luma_for request)) (shown_for extent limits request bytes)
-thumbnail-lacks extent limits request choice bytes picture rows fault format is sized turned none =
-    subst (λ (o : Result Shown Fault). LacksColours format (settings_for (luma_for request)) o)
-    (shown-chosen extent limits request choice bytes sized turned)
-    (given-lacks extent (luma_for request) limits choice.scale bytes picture rows fault format is none)
+    go : (frame : Option Frame) → option_map (info_by (settings_for luma)) (option_map (scaled scale) frame) ≡ Some info
+        → IsSomeAnd (option_map (info_by (settings_for luma)) frame) (λ k. has_pixels format k.pixel_format ≡ false)
+    go None i = absurd (let n : ⊥ = cc in n)
+    go (Some f) i = subst (λ (p : PixelFormat). has_pixels format p ≡ false) (same-format luma scale f)
+        (subst (λ (k : ImageInfo). has_pixels format k.pixel_format ≡ false)
+        (sym (some-same (info_by (settings_for luma) (scaled scale f)) info i)) none)

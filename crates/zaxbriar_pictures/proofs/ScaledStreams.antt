@@ -25,7 +25,8 @@ use Rattle.zaxbriar_pictures.proofs.AllowedRests.{allowed-rest}
 use Rattle.zaxbriar_pictures.specs.Given.{CodesWithin, TellsGiven, complete_rest, complete_rows, complete_within}
 use Rattle.zaxbriar_pictures.specs.Given.{given_rest, given_within, most_after, settings_within, without_fault}
 use Rattle.zaxbriar_samples.specs.DecodedPictures.{Decoded, decoded}
-use Rattle.zaxbriar_pictures.specs.Raw.{raw_bytes, raw_of}
+use Rattle.zaxbriar_pictures.specs.Raw.{raw_of}
+use Rattle.zaxbriar_samples.specs.LineTakers.{raw_bytes}
 use Rattle.zaxbriar_samples.specs.Files.{file_as}
 use Rattle.zaxbriar_samples.specs.Sizes.{orientation_by, orientation_for}
 use Rattle.zaxbriar_samples.specs.Parts.{shown_part}

@@ -1,4 +1,5 @@
 pub mod Allowed
+pub mod ByRows
 pub mod Crops
 pub mod Given
 pub mod PartLines

@@ -1,18 +1,14 @@
 -- The bytes of a stream's picture, as `raw` writes them.
-use Rattle.std.specs.Prelude.{ℕ, Bool, false, List, ◌++◌, Ok, Err, Option, Some, None, option_map}
-use Rattle.jpeg_meaning.specs.Output.{header_line_of, output_of}
+use Rattle.std.specs.Prelude.{ℕ, Bool, false, List, Ok, Err, Option, None, option_map}
+use Rattle.jpeg_meaning.specs.Output.{output_of}
 use Rattle.jpeg_meaning.specs.Stream.{meaning}
 use Rattle.jpeg_orientation.specs.declared.areas.Area.{Area}
 use Rattle.zaxbriar_pictures.specs.ScaledPictures.{decoded_of, header_exif, settings_for}
-use Rattle.zaxbriar_samples.specs.DecodedPictures.{Decoded}
+use Rattle.zaxbriar_samples.specs.LineTakers.{raw_bytes}
 use Rattle.zaxbriar_samples.specs.Sizes.{orientation_by}
 use Rattle.zaxbriar_samples.specs.Parts.{shown_part}
 use Rattle.zaxbriar_samples.specs.declared.requests.Upright.{Upright}
 use Rattle.zaxbriar_samples.specs.declared.requests.Upright.TheVariants.{AsStored}
-
--- the bytes of a picture: a line with its size and its format, and its pixels
-abbrev pub raw_bytes : Decoded → List ℕ
-raw_bytes p = header_line_of (Some p.info) ++ p.pixels
 
 -- What is written for a stream that has a meaning: in its colours and as it is stored, what
 -- `jpegraw` writes; or its picture, or its luma, turned upright by the orientation that the Exif

@@ -7,21 +7,21 @@ use Rattle.jpeg_meaning.specs.Found.{Found, with_said}
 use Rattle.jpeg_meaning.specs.Pixels.{info_by}
 use Rattle.jpeg_meaning.specs.Shown.{Shown}
 use Rattle.jpeg_meaning.specs.States.{Decoding}
-use Rattle.jpeg_meaning.specs.Stream.{header_at, scaled_to, told_of}
+use Rattle.jpeg_meaning.specs.Stream.{Told, header_at, rest_by, scaled_to, told_of}
 use Rattle.jpeg_meaning.specs.declared.progress.Progress.TheVariants.{HeaderRead}
 use Rattle.jpeg_decoder.specs.Reaching.{NamesFault}
 use Rattle.zaxbriar_files.specs.declared.limits.Limits.{Limits}
-use Rattle.zaxbriar_files.specs.declared.refusal.Refusal.{Refusal}
 use Rattle.zaxbriar_pictures.specs.Given.{complete_rest, given_rest, settings_within}
-use Rattle.zaxbriar_pictures.specs.Reasons.{IsReason, LacksColours}
 use Rattle.zaxbriar_pictures.specs.ScaledPictures.{settings_for}
-use Rattle.zaxbriar_samples.specs.DecodedPictures.{Decoded}
+use Rattle.zaxbriar_samples.specs.DecodedPictures.{Decoded, decoded}
 use Rattle.zaxbriar_samples.specs.Files.{file_as}
+use Rattle.zaxbriar_samples.specs.LineTakers.{raw_bytes}
 use Rattle.zaxbriar_samples.specs.Sizes.{luma_for, orientation_for, scale_of_request, size_for}
 use Rattle.zaxbriar_samples.specs.Parts.{shown_part}
 use Rattle.jpeg_orientation.specs.declared.areas.Area.{Area}
 use Rattle.zaxbriar_pictures.specs.declared.extents.Completeness.{Completeness}
 use Rattle.zaxbriar_pictures.specs.declared.extents.Extent.{Extent}
+use Rattle.zaxbriar_samples.specs.declared.line_takers.Stored.{Stored}
 use Rattle.zaxbriar_pictures.specs.declared.scaled.Choice.{Choice}
 use Rattle.zaxbriar_samples.specs.declared.files.PictureFormat.{PictureFormat}
 use Rattle.zaxbriar_samples.specs.declared.requests.Request.{Request}
@@ -33,6 +33,11 @@ pub record IsChoice (request : Request) (header : Found) (choice : Choice) : Typ
       × (choice.scale ≡ scale_of_request request full choice.orientation)
       × (choice.size ≡ size_for request full choice.orientation))
   pub turned : choice.orientation ≡ orientation_for request header.said.metadata.exif
+
+-- This is said of the picture of a decoder.
+pub record IsSaid (stored : Stored) (d : Decoding) : Type 0 where
+  pub info_is : option_map (info_by d.settings) d.found.said.frame ≡ Some stored.info
+  pub precision_is : option_map (λ f. f.precision) d.found.said.frame ≡ Some stored.precision
 
 -- A decoder of known bytes has read their header, its picture is to have the scale of a choice,
 -- which is the one for a request, and its scans may code as many blocks as the limits allow.
@@ -66,17 +71,25 @@ pub record GivesPicture (extent : Extent) (old new : Decoding) (picture : Decode
   pub told_is : told.info ≡ picture.info
   pub rows : CountsRest extent old told.info.height told.whole_rows
 
--- Nothing of what the rest gives was written, by its settings.
-abbrev pub RefusesFile : Extent → PictureFormat → Decoding → Refusal → Type 0
-RefusesFile extent format old =
-    let rest = given_rest extent old.settings old.found old.source.bytes in
-    IsReason rest true true (LacksColours format old.settings rest)
-
 -- Such a decoder has given a picture, and a writer has got its file, or that of a part, in a format
 -- that has one, once it was turned upright by an orientation.
 pub record WritesFile (extent : Extent) (crop : Option Area) (orientation : ℕ)
-    (format : PictureFormat) (old new : Decoding) (before after : Option (List ℕ)) (told : Completeness) : Type 0 where
+    (format : PictureFormat) (old : Decoding) (before after : Option (List ℕ))
+    (told : Completeness) : Type 0 where
   pub picture : Decoded
+  pub new : Decoding
   pub gives : GivesPicture extent old new picture told
   pub written : IsSomeAnd (file_as format (shown_part crop orientation picture))
       (Appends before after)
+
+-- The rest of such a decoder's bytes means these pixels, of the frame of their header, and a writer
+-- has got the header line and the pixels of the picture, or those of a part, turned upright.
+pub record WritesPixels (crop : Option Area) (stored : Stored) (old : Decoding)
+    (before after : Option (List ℕ)) : Type 0 where
+  pub told : Told
+  pub pixels : List ℕ
+  pub left : List ℕ
+  pub means : rest_by old.settings old.found old.source.bytes ≡ Ok ((told, pixels), left)
+  pub frame_is : told.frame ≡ old.found.said.frame
+  pub written : Appends before after (raw_bytes (shown_part crop stored.orientation
+      (decoded stored.info stored.precision pixels)))

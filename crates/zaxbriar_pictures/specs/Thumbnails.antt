@@ -3,6 +3,10 @@ use Rattle.std.specs.Prelude.{ℕ, List, Option, ◌≡◌, ◌==◌, ◌*◌, S
 use Rattle.std.specs.Prelude.{IsSomeAnd}
 use Rattle.std.specs.Io.KnownBytes.{Appends}
 use Rattle.jpeg_meaning.specs.declared.images.ImageInfo.{ImageInfo}
+use Rattle.jpeg_meaning.specs.States.{Decoding}
+use Rattle.jpeg_segments.specs.declared.frame.Dimensions.{Dimensions}
+use Rattle.zaxbriar_pictures.specs.Steps.{GivesPicture}
+use Rattle.zaxbriar_samples.specs.DecodedPictures.{Decoded}
 use Rattle.jpeg_decoder.specs.Reaching.{NamesFault}
 use Rattle.jpeg_segments.specs.declared.scale.Scale.{Scale}
 use Rattle.jpeg_segments.specs.declared.scale.Scale.TheVariants.{Eighth, Quarter, Half, Full}
@@ -56,3 +60,14 @@ WritesThumbnail extent limits request format bytes before after told =
     (file_as format (upright orientation (boxed (size_for request full orientation) g.picture)))
     (Appends before after)
     × TellsOfFile full extent limits (scale_of_request request full orientation) bytes g told
+
+-- A decoder whose header was read has given a picture, of which this much is complete, and a writer
+-- has got its file, boxed down to a size and turned upright by an orientation.
+pub record WritesSized (extent : Extent) (orientation : ℕ) (size : Dimensions)
+    (format : PictureFormat) (old : Decoding) (before after : Option (List ℕ))
+    (told : Completeness) : Type 0 where
+  pub picture : Decoded
+  pub new : Decoding
+  pub gives : GivesPicture extent old new picture told
+  pub written : IsSomeAnd (file_as format (upright orientation (boxed size picture)))
+      (Appends before after)

@@ -1,6 +1,6 @@
 //! How much of a stream's picture is decoded: the whole, or what a stream that has a fault has
 //! brought up to it.
-ghost use Rattle.std.specs.Prelude.{◌≡◌, IfErr, IfOk, IfSome, Some, false, is_some, not};
+ghost use Rattle.std.specs.Prelude.{◌≡◌, IfErr, IfOk, IfSome, None, Some, false, is_some, not};
 ghost use Rattle.std.specs.Prelude.{option_map, true};
 ghost use Rattle.std.specs.List.{concat};
 ghost use Rattle.jpeg_bits.specs.Reading.{IsGivenUp};
@@ -42,6 +42,17 @@ pub struct Completeness {
 }
 
 impl Completeness {
+    /// Returns that all rows of a picture are complete.
+    pub(crate) fn of_whole(info: ImageInfo) -> Completeness
+        ensures { result ≡ record { info = info; whole_rows = info.height; fault = None } }
+    {
+        Completeness {
+            info,
+            whole_rows: info.height,
+            fault: None,
+        }
+    }
+
     /// Returns whether the stream has no fault.
     pub fn is_whole(&self) -> bool
         ensures { result ≡ not (is_some self.now.fault) }

@@ -18,7 +18,7 @@ ghost use Rattle.zaxbriar_samples.specs.Png.{has_png, line_bytes, png_of};
 ghost use Rattle.zaxbriar_samples.specs.Turns.{turn_by, upright};
 ghost use Rattle.zaxbriar_samples.specs.Parts.{has_part};
 ghost use Rattle.jpeg_orientation.specs.Areas.{is_inside};
-ghost use Rattle.zaxbriar_pictures.specs.PartLines.{IsAreaOf, IsOutside, IsPartFor};
+ghost use Rattle.zaxbriar_pictures.specs.PartLines.{IsAreaOf, IsOutside, IsPartFor, area_for};
 
 use jpeg_decoder::error::Result;
 use jpeg_decoder::parser::Dimensions;
@@ -32,21 +32,11 @@ use zaxbriar_files::refusal::Refusal;
 use zaxbriar_samples::boxes::Boxing;
 use zaxbriar_samples::files;
 use zaxbriar_samples::files::PictureFormat;
+use zaxbriar_samples::line_takers::Stored;
 use zaxbriar_samples::netpbm::{Picture, header};
 use zaxbriar_samples::png::PngFile;
 use zaxbriar_samples::samples::pixel_bytes;
 use zaxbriar_samples::turns::upright;
-
-/// What is said of a picture as it is stored, and the orientation by which it is to be turned.
-#[derive(Clone, Copy)]
-pub(crate) struct Stored {
-    /// Its size and format.
-    pub info: ImageInfo,
-    /// How many bits a sample has.
-    pub precision: u8,
-    /// The orientation: 1 where it isn't turned.
-    pub orientation: u8,
-}
 
 /// What is said of a part of a picture, and its lines.
 #[derive(Drop)]
@@ -112,6 +102,16 @@ fn part_of(alloc: Global, stored: Stored, lines: Lines, area: Area) -> Result<Pa
         stored: Stored { info, ..stored },
         lines,
     })
+}
+
+/// Returns the area of a stored picture that becomes the part which is asked for of the picture as it
+/// is shown, if one is.
+pub(crate) fn area_for(stored: Stored, crop: Option<Area>) -> Option<Area>
+    requires inside { has_part crop stored.orientation stored.info ≡ true }
+    ensures { result ≡ area_for crop stored }
+{
+    let area = crop?;
+    Some(stored_area(turn_of(stored), area))
 }
 
 /// Returns the lines of a stored picture that become the part which is asked for of the picture as

@@ -1,35 +1,33 @@
 //! Pictures of streams at a scale, as netpbm or PNG files, as they are stored or turned upright.
-ghost use Rattle.std.specs.Prelude.{◌≡◌, ◌*◌, List, ℕ, IfErr, IfOk, Some, IsSomeAnd, option_map};
-ghost use Rattle.std.specs.Prelude.{◌≤◌, IfSome, is_some, length, true};
-ghost use Rattle.std.specs.List.{concat};
+ghost use Rattle.std.specs.Prelude.{◌≡◌, ◌*◌, List, ℕ, IfErr, IfOk, IfSome, Some, option_map};
+ghost use Rattle.std.specs.Prelude.{◌≤◌, false, is_some, true};
 ghost use Rattle.jpeg_bits.specs.Reading.{Answers};
+ghost use Rattle.jpeg_decoder.specs.Bytes.{decoding_bytes};
 ghost use Rattle.jpeg_meaning.specs.Output.{Tells};
 ghost use Rattle.jpeg_meaning.specs.Pixels.{info_by};
-ghost use Rattle.jpeg_meaning.specs.States.{IsReading, ahead};
+ghost use Rattle.jpeg_meaning.specs.States.{HasHeader, IsReading, ahead};
 ghost use Rattle.jpeg_meaning.specs.Stream.{header_at, told_of};
-ghost use Rattle.jpeg_decoder.specs.Bytes.{HaveBytes, decoding_bytes};
-ghost use Rattle.jpeg_meaning.specs.States.{HasHeader};
-ghost use Rattle.zaxbriar_pictures.specs.Allowed.{allows, made_bytes, taken_at, taken_for};
-ghost use Rattle.zaxbriar_pictures.specs.Allowed.{taken_in_lines, taken_smaller, taken_whole};
 ghost use Rattle.jpeg_meaning.specs.declared.progress.Progress.TheVariants.{Fresh, HeaderRead};
+ghost use Rattle.zaxbriar_pictures.specs.Allowed.{allows, is_by_lines, made_bytes, taken_at};
+ghost use Rattle.zaxbriar_pictures.specs.Allowed.{taken_for, taken_in_lines, taken_smaller};
+ghost use Rattle.zaxbriar_pictures.specs.Allowed.{taken_whole};
+ghost use Rattle.zaxbriar_pictures.specs.ByRows.{is_by_rows, read_at_scale, read_rest};
 ghost use Rattle.zaxbriar_pictures.specs.Crops.{fits};
-ghost use Rattle.zaxbriar_pictures.specs.Given.{IsGiven, WritesGiven, most_after};
-ghost use Rattle.zaxbriar_pictures.specs.Given.{shown_at_scale};
-ghost use Rattle.zaxbriar_pictures.specs.Reasons.{IsReason, LacksColours, shown_for};
-ghost use Rattle.zaxbriar_pictures.specs.ScaledPictures.{header_exif, header_info, settings_for};
-ghost use Rattle.zaxbriar_samples.specs.DecodedPictures.{decoded};
+ghost use Rattle.zaxbriar_pictures.specs.Given.{WritesGiven, most_after};
+ghost use Rattle.zaxbriar_pictures.specs.Reasons.{IsReason, LacksColours, NamesOrOutside};
+ghost use Rattle.zaxbriar_pictures.specs.ScaledPictures.{settings_for};
+ghost use Rattle.zaxbriar_pictures.specs.Steps.{IsSaid, ReadsForRequest, WritesFile};
+ghost use Rattle.zaxbriar_pictures.specs.declared.extents.Extent.TheVariants.{Whole};
+ghost use Rattle.zaxbriar_samples.specs.Files.{has_pixels};
 ghost use Rattle.zaxbriar_samples.specs.Parts.{has_part};
-ghost use Rattle.zaxbriar_samples.specs.Png.{line_bytes};
-ghost use Rattle.zaxbriar_pictures.specs.Steps.{ReadsForRequest, RefusesFile, WritesFile};
-ghost use Rattle.zaxbriar_samples.specs.Sizes.{luma_for, orientation_for, scale_of_request};
-ghost use Rattle.zaxbriar_samples.specs.Sizes.{size_for};
+ghost use Rattle.zaxbriar_samples.specs.Sizes.{luma_for};
 ghost use Rattle.zaxbriar_samples.specs.declared.requests.Request.TheVariants.{At};
 
+use crate::by_rows::write_rows;
 use crate::extents::{Completeness, Extent, decode_wanted_lines};
-use crate::lines::{Stored, check_crop, is_by_lines, part_for, write_file};
-use jpeg_decoder::error::Error;
+use crate::lines::{area_for, check_crop, is_by_lines, part_for, write_file};
 use jpeg_decoder::parser::Dimensions;
-use jpeg_decoder::{Decoder, ImageInfo, Lines, Scale, error};
+use jpeg_decoder::{Decoder, ImageInfo, Scale, error};
 use jpeg_orientation::areas::Area;
 use std::alloc::Global;
 use std::io::{Read, Write};
@@ -37,6 +35,7 @@ use zaxbriar_files::limits::Limits;
 use zaxbriar_files::refusal::Refusal;
 use zaxbriar_samples::boxes::is_smaller;
 use zaxbriar_samples::files::{PictureFormat, has_pixels};
+use zaxbriar_samples::line_takers::{Form, Plan, Stored};
 use zaxbriar_samples::netpbm::Picture;
 use zaxbriar_samples::requests::{AtScale, Request};
 use zaxbriar_samples::turns::bytes_of;
@@ -116,30 +115,6 @@ pub struct Choice {
     /// The requested size, which isn't greater than the picture at that scale.
     pub size: Dimensions,
     /// The orientation that the picture is to be turned by: 1 where it is none.
-    pub orientation: u8,
-}
-
-/// The lines of a picture at a scale.
-#[derive(Drop)]
-pub struct ScaledLines {
-    /// The lines.
-    pub lines: Lines,
-    /// The size and format of the picture.
-    pub info: ImageInfo,
-    /// How many bits a sample has.
-    pub precision: u8,
-    /// The number of its rows, from the top, that are complete in each scan that was begun. All of
-    /// them if the stream has no fault.
-    pub whole_rows: u16,
-    /// The first fault of its stream, or none if it is whole.
-    pub fault: Option<Error>,
-    /// What the header says of the whole picture.
-    pub full: ImageInfo,
-    /// Its scale.
-    pub scale: Scale,
-    /// The requested size, which isn't greater than the picture.
-    pub size: Dimensions,
-    /// The orientation that it is to be turned by: 1 where it is none.
     pub orientation: u8,
 }
 
@@ -225,6 +200,31 @@ pub fn limit_blocks<R: Read + Drop>(decoder: &mut Decoder<R>, limits: Limits)
     decoder.set_max_blocks(limits.most_blocks(blocks));
 }
 
+/// Returns what is said of the picture of a decoder, whose header was read, and is to be turned by an
+/// orientation.
+pub(crate) fn stored_in<R: Read + Drop>(decoder: &Decoder<R>, orientation: u8) -> Stored
+    requires framed { is_some decoder.now.found.said.frame ≡ true }
+    ensures said { IsSaid result decoder.now }
+    ensures orientation { result.orientation ≡ orientation }
+{
+    Stored {
+        info: decoder.info().unwrap(),
+        precision: decoder.precision().unwrap(),
+        orientation,
+    }
+}
+
+/// Returns whether the lines of a picture are written as they are read: where the whole is wanted,
+/// and they are written one by one.
+fn is_by_rows(extent: Extent, format: PictureFormat, stored: Stored) -> bool
+    ensures { result ≡ is_by_rows extent format stored.precision stored.orientation }
+{
+    match extent {
+        Extent::Whole => is_by_lines(format, stored.precision, stored.orientation),
+        Extent::Partial => false,
+    }
+}
+
 /// Reads the header of the stream of a decoder, and sets the scale for the request and the limit of
 /// blocks. A picture above the limits is refused.
 pub(crate) fn choose<R: Read + Drop>(
@@ -268,186 +268,127 @@ pub(crate) fn choose<R: Read + Drop>(
     })
 }
 
-/// Decodes as much as is wanted of the stream of a decoder that has read nothing, at the scale for
-/// the request.
-fn read_chosen<R: Read + Drop>(
-    decoder: &mut Decoder<R>,
-    request: Request,
-    format: PictureFormat,
-    extent: Extent,
-    limits: Limits,
-) -> Result<ScaledLines, Refusal>
-    requires fresh { decoder.old.stage ≡ Fresh }
-    requires plain { decoder.old.settings ≡ settings_for (luma_for request) }
-    ensures picture { decoder.old.source.known ≡ true → IfOk result (λ made. IsGiven extent
-        (luma_for request) limits made.scale decoder.old.source.bytes
-        (decoded made.info made.precision (concat made.lines)) made.whole_rows made.fault) }
-    ensures height { IfOk result (λ made. length made.lines ≡ made.info.height) }
-    ensures bytes { IfOk result
-        (λ made. HaveBytes (line_bytes made.info made.precision) made.lines) }
-    ensures asked { (at : _) → request ≡ At at → IfOk result (λ made. made.scale ≡ at.scale) }
-    ensures chosen { decoder.old.source.known ≡ true → IfOk result (λ made.
-        IsSomeAnd (header_info (luma_for request) decoder.old.source.bytes)
-        (λ full. (made.full ≡ full)
-        × (made.scale ≡ scale_of_request request full made.orientation)
-        × (made.size ≡ size_for request full made.orientation))) }
-    ensures said { decoder.old.source.known ≡ true → IfOk result (λ made. made.orientation
-        ≡ orientation_for request (header_exif decoder.old.source.bytes)) }
-    ensures orientation { IfOk result (λ made. (1 ≤ made.orientation)
-        × (made.orientation ≤ 8)) }
-    ensures limited { decoder.old.source.known ≡ true → IfOk result
-        (λ _. allows request format limits decoder.old.source.bytes ≡ true) }
-    ensures refused { decoder.old.source.known ≡ true
-        → IfErr result (IsReason (shown_for extent limits request decoder.old.source.bytes)
-        (allows request format limits decoder.old.source.bytes) true ⊥) }
-{
-    let choice = choose(decoder, request, format, limits)?;
-    let decoded = decode_wanted_lines(decoder, extent)?;
-    let info = decoder.info().unwrap();
-    let precision = decoder.precision().unwrap();
-    Ok(ScaledLines {
-        lines: decoded.lines,
-        info,
-        precision,
-        whole_rows: decoded.whole_rows,
-        fault: decoded.fault,
-        full: choice.full,
-        scale: choice.scale,
-        size: choice.size,
-        orientation: choice.orientation,
-    })
-}
-
-/// Decodes as much as is wanted of the stream that the reader gives, at the scale for the request,
-/// for a file of a format, and returns its lines. A picture above the limits is refused by its
-/// header. A read that fails is an error.
-pub fn read_lines<R: Read + Drop>(
+/// Writes the picture of a decoder, at the scale that was set, or the part of it that is asked for,
+/// as a file that has its pixels, as its lines are read.
+fn write_as_read<R: Read + Drop, W: Write>(
     alloc: Global,
-    reader: R,
-    request: Request,
+    decoder: Decoder<R>,
+    stored: Stored,
+    crop: Option<Area>,
     format: PictureFormat,
-    extent: Extent,
-    limits: Limits,
-) -> Result<ScaledLines, Refusal>
-    // The picture is the one that the bytes give at its scale within the limits, its complete rows
-    // are counted, and the fault is named.
-    ensures picture { (bytes : List ℕ) → Tells (R.remaining reader) bytes
-        → IfOk result (λ made. IsGiven extent (luma_for request) limits made.scale bytes
-        (decoded made.info made.precision (concat made.lines)) made.whole_rows made.fault) }
-
-    // There are as many lines as the picture is high, each of as many bytes as its width takes.
-    ensures height { IfOk result (λ made. length made.lines ≡ made.info.height) }
-    ensures bytes { IfOk result
-        (λ made. HaveBytes (line_bytes made.info made.precision) made.lines) }
-
-    // A requested scale is the scale.
-    ensures asked { (at : _) → request ≡ At at → IfOk result (λ made. made.scale ≡ at.scale) }
-
-    // Scale and size are those for the request, by the header and the orientation.
-    ensures chosen { (bytes : List ℕ) → Tells (R.remaining reader) bytes → IfOk result (λ made.
-        IsSomeAnd (header_info (luma_for request) bytes) (λ full. (made.full ≡ full)
-        × (made.scale ≡ scale_of_request request full made.orientation)
-        × (made.size ≡ size_for request full made.orientation))) }
-
-    // The orientation is the one that the header's Exif data say, if the request is to turn by it.
-    ensures said { (bytes : List ℕ) → Tells (R.remaining reader) bytes → IfOk result (λ made.
-        made.orientation ≡ orientation_for request (header_exif bytes)) }
-    ensures orientation { IfOk result (λ made. (1 ≤ made.orientation)
-        × (made.orientation ≤ 8)) }
-
-    // A picture that has or takes more than the limits allow is refused.
-    ensures limited { (bytes : List ℕ) → Tells (R.remaining reader) bytes
-        → IfOk result (λ _. allows request format limits bytes ≡ true) }
-
-    // A refusal names the stream's fault, or a limit that it is above, or is one of the reader, or
-    // out of memory.
-    ensures refused { (bytes : List ℕ) → Tells (R.remaining reader) bytes
-        → IfErr result (IsReason (shown_for extent limits request bytes)
-        (allows request format limits bytes) true ⊥) }
+    writer: &mut W,
+) -> error::Result<Completeness>
+    requires header { decoder.stage ≡ HeaderRead }
+    requires said { IsSaid stored decoder }
+    requires fits { has_part crop stored.orientation stored.info ≡ true }
+    requires pixels { has_pixels format stored.info.pixel_format ≡ true }
+    requires lines { is_by_lines format stored.precision stored.orientation ≡ true }
+    ensures written { IfOk result (λ told. WritesFile Whole crop stored.orientation format decoder
+        (W.contents writer.old) (W.contents writer.new) told) }
+    ensures refused { decoder.source.known ≡ true → IfErr result (NamesOrOutside
+        (read_rest true Whole decoder.settings decoder.found decoder.source.bytes)) }
 {
-    let mut decoder = Decoder::with_capacity(alloc, READ_AHEAD, reader)?;
-    decoder.set_luma(request.wants_luma());
-    read_chosen(&mut decoder, request, format, extent, limits)
+    let plan = Plan {
+        stored,
+        area: area_for(stored, crop),
+        form: Form::File(format),
+    };
+    write_rows(alloc, decoder, plan, writer)?;
+    Ok(Completeness::of_whole(stored.info))
 }
 
 /// Decodes as much as is wanted of the picture of a decoder, at the scale that was set, writes it,
-/// or the part of it that is asked for, as a file, turned upright by an orientation, and returns how
-/// much of it is complete, before it is turned. One whose pixels the format doesn't have is refused,
-/// and nothing is written.
-fn write_decoded<R: Read + Drop, W: Write>(
+/// or the part of it that is asked for, as a file that has its pixels, turned upright, and returns
+/// how much of it is complete, before it is turned.
+fn write_lines<R: Read + Drop, W: Write>(
     alloc: Global,
-    decoder: &mut Decoder<R>,
+    mut decoder: Decoder<R>,
+    stored: Stored,
     crop: Option<Area>,
-    orientation: u8,
     extent: Extent,
     format: PictureFormat,
     writer: &mut W,
-) -> Result<Completeness, Refusal>
-    requires header { decoder.old.stage ≡ HeaderRead }
-    requires fits { IfSome decoder.old.found.said.frame (λ f. has_part crop orientation
-        (info_by decoder.old.settings f) ≡ true) }
-    ensures written { IfOk result (λ told. WritesFile extent crop orientation format decoder.old
-        decoder.new (W.contents writer.old) (W.contents writer.new) told) }
-    ensures refused { decoder.old.source.known ≡ true
-        → IfErr result (RefusesFile extent format decoder.old) }
+) -> error::Result<Completeness>
+    requires header { decoder.stage ≡ HeaderRead }
+    requires said { IsSaid stored decoder }
+    requires fits { has_part crop stored.orientation stored.info ≡ true }
+    requires pixels { has_pixels format stored.info.pixel_format ≡ true }
+    ensures written { IfOk result (λ told. WritesFile extent crop stored.orientation format decoder
+        (W.contents writer.old) (W.contents writer.new) told) }
+    ensures refused { decoder.source.known ≡ true → IfErr result (NamesOrOutside
+        (read_rest false extent decoder.settings decoder.found decoder.source.bytes)) }
 {
-    let decoded = decode_wanted_lines(decoder, extent)?;
-    let info = decoder.info().unwrap();
-    let precision = decoder.precision().unwrap();
-    if !has_pixels(format, info.pixel_format) {
-        return Err(Refusal::Cmyk);
-    }
-    let stored = Stored {
-        info,
-        precision,
-        orientation,
-    };
+    let decoded = decode_wanted_lines(&mut decoder, extent)?;
     let part = part_for(alloc, stored, decoded.lines, crop)?;
     write_file(alloc, part.stored, part.lines, format, writer)?;
     Ok(Completeness {
-        info,
+        info: stored.info,
         whole_rows: decoded.whole_rows,
         fault: decoded.fault,
     })
+}
+
+/// Writes the picture of a decoder, at the scale that was set, or the part of it that is asked for:
+/// as its lines are read, where they are written so, or once as much as is wanted is decoded. It
+/// returns how much of the picture is complete.
+fn write_stored<R: Read + Drop, W: Write>(
+    alloc: Global,
+    decoder: Decoder<R>,
+    stored: Stored,
+    crop: Option<Area>,
+    extent: Extent,
+    format: PictureFormat,
+    writer: &mut W,
+) -> error::Result<Completeness>
+    requires header { decoder.stage ≡ HeaderRead }
+    requires said { IsSaid stored decoder }
+    requires fits { has_part crop stored.orientation stored.info ≡ true }
+    requires pixels { has_pixels format stored.info.pixel_format ≡ true }
+    ensures written { IfOk result (λ told. WritesFile extent crop stored.orientation format decoder
+        (W.contents writer.old) (W.contents writer.new) told) }
+    ensures refused { decoder.source.known ≡ true → IfErr result (NamesOrOutside
+        (read_rest (is_by_rows extent format stored.precision stored.orientation) extent
+        decoder.settings decoder.found decoder.source.bytes)) }
+{
+    if is_by_rows(extent, format, stored) {
+        write_as_read(alloc, decoder, stored, crop, format, writer)
+    } else {
+        write_lines(alloc, decoder, stored, crop, extent, format, writer)
+    }
 }
 
 /// Decodes as much as is wanted of the stream of a decoder that has read nothing, writes its
 /// picture at a scale, or the part of it that is asked for, and returns how much of it is complete.
 fn write_chosen<R: Read + Drop, W: Write>(
     alloc: Global,
-    decoder: &mut Decoder<R>,
+    mut decoder: Decoder<R>,
     at: AtScale,
     extent: Extent,
     limits: Limits,
     format: PictureFormat,
     writer: &mut W,
 ) -> Result<Completeness, Refusal>
-    requires fresh { decoder.old.stage ≡ Fresh }
-    requires plain { decoder.old.settings ≡ settings_for at.luma }
-    ensures written { decoder.old.source.known ≡ true → IfOk result (WritesGiven extent limits
-        at format decoder.old.source.bytes (W.contents writer.old) (W.contents writer.new)) }
-    ensures limited { decoder.old.source.known ≡ true → IfOk result
-        (λ _. allows (At at) format limits decoder.old.source.bytes ≡ true) }
-    ensures fits { decoder.old.source.known ≡ true
-        → IfOk result (λ _. fits at decoder.old.source.bytes ≡ true) }
-    ensures refused { decoder.old.source.known ≡ true → IfErr result (IsReason
-        (shown_at_scale extent at.luma limits at.scale decoder.old.source.bytes)
-        (allows (At at) format limits decoder.old.source.bytes)
-        (fits at decoder.old.source.bytes)
-        (LacksColours format (settings_for at.luma)
-        (shown_at_scale extent at.luma limits at.scale decoder.old.source.bytes))) }
+    requires fresh { decoder.stage ≡ Fresh }
+    requires plain { decoder.settings ≡ settings_for at.luma }
+    ensures written { decoder.source.known ≡ true → IfOk result (WritesGiven extent limits at
+        format decoder.source.bytes (W.contents writer.old) (W.contents writer.new)) }
+    ensures limited { decoder.source.known ≡ true → IfOk result
+        (λ _. allows (At at) format limits decoder.source.bytes ≡ true) }
+    ensures fits { decoder.source.known ≡ true
+        → IfOk result (λ _. fits at decoder.source.bytes ≡ true) }
+    ensures refused { decoder.source.known ≡ true → IfErr result (IsReason
+        (read_at_scale extent limits at format decoder.source.bytes)
+        (allows (At at) format limits decoder.source.bytes) (fits at decoder.source.bytes)
+        (LacksColours format at.luma decoder.source.bytes)) }
 {
-    let choice = choose(decoder, Request::At(at), format, limits)?;
-    let orientation = choice.orientation;
-    let info = decoder.info().unwrap();
-    let precision = decoder.precision().unwrap();
-    let stored = Stored {
-        info,
-        precision,
-        orientation,
-    };
+    let choice = choose(&mut decoder, Request::At(at), format, limits)?;
+    let stored = stored_in(&decoder, choice.orientation);
     check_crop(at.crop, stored)?;
-    write_decoded(alloc, decoder, at.crop, orientation, extent, format, writer)
+    if !has_pixels(format, stored.info.pixel_format) {
+        return Err(Refusal::Cmyk);
+    }
+    let told = write_stored(alloc, decoder, stored, at.crop, extent, format, writer)?;
+    Ok(told)
 }
 
 /// Decodes as much as is wanted of the stream that the reader gives, writes its picture at a scale,
@@ -479,11 +420,10 @@ pub fn write_at<R: Read + Drop, W: Write>(
     // A refusal names the stream's fault, or a limit that it is above, or a part that isn't inside
     // its picture, or colours that the format lacks, or is one of the reader, the writer or memory.
     ensures refused { (bytes : List ℕ) → Tells (R.remaining reader) bytes → IfErr result (IsReason
-        (shown_at_scale extent at.luma limits at.scale bytes) (allows (At at) format limits bytes)
-        (fits at bytes) (LacksColours format (settings_for at.luma)
-        (shown_at_scale extent at.luma limits at.scale bytes))) }
+        (read_at_scale extent limits at format bytes) (allows (At at) format limits bytes)
+        (fits at bytes) (LacksColours format at.luma bytes)) }
 {
     let mut decoder = Decoder::with_capacity(alloc, READ_AHEAD, reader)?;
     decoder.set_luma(at.luma);
-    write_chosen(alloc, &mut decoder, at, extent, limits, format, writer)
+    write_chosen(alloc, decoder, at, extent, limits, format, writer)
 }

@@ -3,9 +3,11 @@ pub mod Boxes
 pub mod Boxing
 pub mod DecodedPictures
 pub mod Files
+pub mod LineTakers
 pub mod Netpbm
 pub mod Parts
 pub mod Png
+pub mod PngLines
 pub mod Refusals
 pub mod Samples
 pub mod Sizes

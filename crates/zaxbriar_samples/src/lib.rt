@@ -9,6 +9,7 @@ pub mod boxes;
 mod crc;
 pub mod files;
 pub mod laws;
+pub mod line_takers;
 pub mod netpbm;
 pub mod png;
 pub mod requests;

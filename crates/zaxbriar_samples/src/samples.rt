@@ -34,7 +34,7 @@ pub fn pixel_bytes(info: ImageInfo, precision: u8) -> u8
 }
 
 /// Returns the bytes of a picture from a place on, this many or as many as there are.
-pub(crate) fn part_at(pixels: &[u8], start: usize, size: usize) -> &[u8]
+pub fn part_at(pixels: &[u8], start: usize, size: usize) -> &[u8]
     ensures { result.now ≡ take size (drop start pixels.now) }
 {
     let (_, rest) = pixels.split_at(start.min(pixels.len()));

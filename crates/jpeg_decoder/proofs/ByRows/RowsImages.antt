@@ -41,7 +41,7 @@ shows-more limit show other found bytes x same e =
     then-ok (segments_at limit false Elsewhere found None bytes) _ all.0 _ all.1
     (then-ok (other all.0.0) _ shown.0 _ (same all.0.0 shown.0 shown.1) shown.2)
 
-rest-means : (settings : Settings) (found : Found) (bytes : List ℕ) (x : (Told × List ℕ) × List ℕ)
+pub rest-means : (settings : Settings) (found : Found) (bytes : List ℕ) (x : (Told × List ℕ) × List ℕ)
     → rows_rest settings found bytes ≡ Ok x
     → rest_showing settings.max_blocks (picture_of settings) found bytes ≡ Ok x
 unfolding rows_rest

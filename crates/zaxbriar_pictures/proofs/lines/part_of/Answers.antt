@@ -1,6 +1,7 @@
 use Rattle.std.proofs.Common.{arith, refl}
 use Rattle.zaxbriar_samples.specs.Parts.{pixel_bytes}
-use Rattle.zaxbriar_pictures.proofs.PartPictures.{crop-room, crop-there, is-area, is-there}
+use Rattle.zaxbriar_samples.proofs.PartLines.{is-there}
+use Rattle.zaxbriar_pictures.proofs.PartPictures.{crop-room, crop-there, is-area}
 use Rattle.zaxbriar_pictures.proofs.lines.part_of.Goals as goal
 
 pub crop-requires-clause-lines : goal.crop-requires-clause-lines

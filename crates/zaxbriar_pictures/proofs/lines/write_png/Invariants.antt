@@ -1,7 +1,7 @@
 use Rattle.std.proofs.Common.{◌≡◌, length}
 use Rattle.std.specs.List.{concat}
 use Rattle.jpeg_decoder.specs.Bytes.{HaveBytes}
-use Rattle.zaxbriar_samples.proofs.PngSteps.{HasLines}
+use Rattle.zaxbriar_samples.specs.PngLines.{HasLines}
 use Rattle.zaxbriar_pictures.proofs.lines.write_png.Given as goal
 
 abbrev pub invariant-loop-row : goal.invariant-loop-row

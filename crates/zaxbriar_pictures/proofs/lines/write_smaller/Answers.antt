@@ -7,7 +7,7 @@ use Rattle.jpeg_meaning.specs.declared.images.PixelFormat.{PixelFormat}
 use Rattle.zaxbriar_samples.specs.DecodedPictures.{Decoded, decoded}
 use Rattle.zaxbriar_samples.specs.Files.{file_as, has_pixels}
 use Rattle.zaxbriar_samples.specs.Turns.{upright}
-use Rattle.zaxbriar_pictures.proofs.Reasons.{same-colours}
+use Rattle.zaxbriar_samples.proofs.TakenLines.{same-colours}
 use Rattle.zaxbriar_pictures.proofs.WriterErrors.{refused-of-writer}
 use Rattle.zaxbriar_pictures.proofs.lines.write_smaller.Goals as goal
 

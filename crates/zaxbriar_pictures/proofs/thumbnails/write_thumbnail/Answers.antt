@@ -1,54 +1,30 @@
-use Rattle.std.proofs.Common.{refl}
-use Rattle.zaxbriar_samples.specs.Boxes.{boxed}
-use Rattle.zaxbriar_samples.specs.Turns.{upright}
-use Rattle.std.specs.List.{concat}
-use Rattle.zaxbriar_samples.specs.DecodedPictures.{decoded}
-use Rattle.zaxbriar_pictures.specs.declared.extents.Completeness.{Completeness}
+use Rattle.jpeg_decoder.proofs.Callers.{bytes_are_known, known_bytes_are_told}
+use Rattle.std.proofs.Common.{inr}
 use Rattle.std.proofs.lemmas.Result.{err_from_is_err_and}
-use Rattle.zaxbriar_pictures.specs.declared.scaled.Choice.{Choice}
-use Rattle.zaxbriar_pictures.proofs.Reasons.{reason-lacks, reason-picture, thumbnail-lacks}
-use Rattle.zaxbriar_pictures.proofs.WrittenThumbnails.{written}
 use Rattle.zaxbriar_pictures.proofs.thumbnails.write_thumbnail.Goals as goal
 
 pub returns-clause-written : goal.returns-clause-written
 returns-clause-written g c bytes tells =
-    let made = c.in_ok-made.made in
-    let told : Completeness = record {
-      info = made.full;
-      whole_rows = c.file_rows-whole_rows.result;
-      fault = made.fault;
-    } in
-    written c.args.extent c.args.limits c.args.request c.args.format bytes (g.W.Write.contents c.args.writer.now)
-    (g.W.Write.contents c.write_upright.new.writer) made.scale made.size made.orientation
-    made.whole_rows (decoded made.info made.precision (concat made.lines)) (boxed made.size (decoded made.info made.precision (concat made.lines)))
-    (upright made.orientation (boxed made.size (decoded made.info made.precision (concat made.lines)))) told
-    (c.in_ok-made.ensures.said bytes tells) (c.in_ok-made.ensures.picture bytes tells)
-    c.file_rows-whole_rows.ensures (c.in_ok-made.ensures.chosen bytes tells) refl refl
-    c.in_ok-write_upright.ensures.written
+    let known = bytes_are_known (g.R.Read.remaining c.args.reader) bytes tells in
+    let same = known_bytes_are_told (g.R.Read.remaining c.args.reader) bytes tells in
+    let written = rw (c.set_luma.ensures, c.in_ok-decoder.ensures.ok) at c.write_chosen.ensures.written in
+    rw same at written known
 
 pub returns-clause-limited : goal.returns-clause-limited
-returns-clause-limited g c bytes tells = c.in_ok-made.ensures.limited bytes tells
+returns-clause-limited g c bytes tells =
+    let known = bytes_are_known (g.R.Read.remaining c.args.reader) bytes tells in
+    let same = known_bytes_are_told (g.R.Read.remaining c.args.reader) bytes tells in
+    let limited = rw (c.set_luma.ensures, c.in_ok-decoder.ensures.ok) at c.write_chosen.ensures.limited in
+    rw same at limited known
 
--- ---- refusals
-
-pub returns-in_err-made-clause-refused : goal.returns-in_err-made-clause-refused
-returns-in_err-made-clause-refused g c bytes tells =
+pub returns-in_err-decoder-clause-refused : goal.returns-in_err-decoder-clause-refused
+returns-in_err-decoder-clause-refused g c bytes tells =
     let p = err_from_is_err_and c.from_residual.result c.from_residual.ensures.1 in
-    rw (p.1, p.2) (reason-lacks _ _ _ _ _ (c.in_err-made.ensures.refused bytes tells))
+    rw (p.1, p.2, c.in_err-decoder.ensures.err) (inr tt)
 
-pub returns-in_err-write_upright-clause-refused : goal.returns-in_err-write_upright-clause-refused
-returns-in_err-write_upright-clause-refused g c bytes tells =
-    let made = c.in_ok-made.made in
-    let choice : Choice = record {
-      full = made.full;
-      scale = made.scale;
-      size = made.size;
-      orientation = made.orientation;
-    } in
-    let p = err_from_is_err_and c.from_residual-in_err-write_upright.result
-    c.from_residual-in_err-write_upright.ensures.1 in
-    rw (p.1, p.2) (reason-picture _ c.args.format made.info.pixel_format _ _ _ _
-    c.in_err-write_upright.ensures.refused
-    (thumbnail-lacks c.args.extent c.args.limits c.args.request choice bytes (decoded made.info made.precision (concat made.lines))
-    made.whole_rows made.fault c.args.format (c.in_ok-made.ensures.picture bytes tells)
-    (c.in_ok-made.ensures.chosen bytes tells) (c.in_ok-made.ensures.said bytes tells)))
+pub returns-clause-refused : goal.returns-clause-refused
+returns-clause-refused g c bytes tells =
+    let known = bytes_are_known (g.R.Read.remaining c.args.reader) bytes tells in
+    let same = known_bytes_are_told (g.R.Read.remaining c.args.reader) bytes tells in
+    let refused = rw (c.set_luma.ensures, c.in_ok-decoder.ensures.ok) at c.write_chosen.ensures.refused in
+    rw same at refused known
