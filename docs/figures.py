@@ -17,6 +17,7 @@ CASES = ROOT / "tests/decoder/data"
 DAMAGED = {
     "partial_random": r"(?m)^case .*(?:flipped|at byte \d+)$",
     "rows_random": r"(?m)^case .*(?:flipped|at byte \d+|closed after \d+ bytes)$",
+    "fed_random": r"(?m)^case ",
 }
 
 
@@ -93,7 +94,7 @@ def expected():
     for name in ("must", "may", "own"):
         figure = len(re.findall(rf'(?m)"file": "\w+", "class": "{name}"', classes))
         yield "docs/CONFORMANCE.md", rf"(?m)^\| \*{name}\* \| (\d+) \|", figure
-    files = ("random", "extreme", "partial_random", "partial_rows", "rows_random")
+    files = ("random", "extreme", "partial_random", "partial_rows", "rows_random", "fed_random")
     drawn = sum(map(cases, files))
     yield "docs/CONFORMANCE.md", r"(\d+) are random streams", drawn
     decoded = sum(map(first_decodes, CASES.glob("*.case")))

@@ -146,7 +146,7 @@ class Decoder:
         self.stream, self.settings = stream, model.Settings(limit=NO_LIMIT)
         self.stage, self.frame, self.said = 'fresh', None, {'exif': None, 'xmp': None, 'icc': []}
         self.place, self.trace, self.meaning = 0, None, None
-        self.gave_rows = False
+        self.gave_rows, self.fed = False, 0
 
     def mean(self, read=model.meaning):
         """Runs the model by the settings of now."""
@@ -203,6 +203,11 @@ class Decoder:
             return refusal_texts(got[1], False)
         said = self.size(), self.words(got[4]), got[6], fault_text(got[5])
         return ['%s%s, rows %d, fault %s' % said]
+
+    def feed(self, count):
+        """What a decoder shows that was fed so many bytes more."""
+        self.fed += int(count)
+        return Decoder(self.stream[: self.fed]).partial()
 
     def words(self, picture):
         width, height = model.info(self.frame, self.scale_of_now())[:2]
