@@ -265,7 +265,7 @@ def described(stream, options):
     stride = options.stride or row_bytes
     if not row_bytes <= stride <= 2**32:
         raise Refusal(BAD_ARGUMENT)
-    coefficients, planes, _, _ = decoding_bytes(frame, scale)
+    coefficients, planes, *_ = decoding_bytes(frame, scale)
     unit, across, down = density_of(stream, header_bytes)
     told = {
         'size': stride * (height - 1) + row_bytes,

@@ -103,11 +103,11 @@ def orientation_of(exif):
     return None
 
 
-def decoding_bytes(frame, scale):
-    """Coefficients, planes, picture, and the most that is taken at a time."""
+def decoding_bytes(frame, scale, luma=False):
+    """Coefficients, planes, picture, the most that is taken at a time, and that by rows."""
     width, height = frame.output(scale)
     picture = width * height * len(frame.comps) * (1 if frame.precision <= 8 else 2)
-    coefficients = planes = 0
+    coefficients = planes = strips = 0
     for component in frame.comps:
         across, down = frame.mcus[0] * component.h, frame.mcus[1] * component.v
         if frame.process == 'lossless':
@@ -118,10 +118,15 @@ def decoding_bytes(frame, scale):
             )
         else:
             planes += across * scale * down * scale
+            strips += across * scale * component.v * scale
             coefficients += 128 * across * (down if frame.process == 'prog' else component.v)
     becomes_picture = len(frame.comps) == 1 and frame.process != 'lossless'
     end = planes + (0 if becomes_picture else picture)
-    return coefficients, planes, picture, max(coefficients + planes, end)
+    rows = coefficients + planes
+    if frame.process == 'seq' and not luma:
+        # (the samples of two rows of MCUs, the lines of one, and two lines more)
+        rows = coefficients + 2 * strips + (frame.vmax * scale + 2) * len(frame.comps) * width
+    return coefficients, planes, picture, max(coefficients + planes, end), rows
 
 
 def refusal_texts(kind, in_scan):
@@ -290,7 +295,8 @@ class Decoder:
             return ['none, precision none, bytes none']
         taken = 'none'
         if self.stage in ('header', 'finished'):
-            taken = '%d %d %d %d' % decoding_bytes(self.frame, self.scale_of_now())
+            sizes = decoding_bytes(self.frame, self.scale_of_now(), self.settings.luma)
+            taken = ' '.join(map(str, sizes))
         said = self.size(), PROCESSES[self.frame.process], self.frame.precision, taken
         return ['%s %s, precision %d, bytes %s' % said]
 

@@ -1,5 +1,5 @@
 -- How many bytes a picture has, and how many are taken while it is decoded.
-use Rattle.std.specs.Prelude.{◌≡◌, ◌≤◌, ℕ, ◌*◌, ◌+◌, ◌==◌, if◌then◌else◌, max, nat_le}
+use Rattle.std.specs.Prelude.{◌≡◌, ◌≤◌, ℕ, ◌*◌, ◌+◌, ◌==◌, Bool, false, if◌then◌else◌, max, nat_le}
 use Rattle.std.specs.Prelude.{List, length, map, Option, Some, None, option_map, sum_by}
 use Rattle.std.specs.List.{AllByRecursion}
 use Rattle.jpeg_segments.specs.Frame.{Component, Frame}
@@ -12,6 +12,7 @@ use Rattle.jpeg_meaning.specs.declared.images.PixelFormat.{PixelFormat}
 use Rattle.jpeg_meaning.specs.declared.images.PixelFormat.TheVariants.{L16}
 use Rattle.jpeg_meaning.specs.declared.settings.Settings.{Settings}
 use Rattle.jpeg_meaning.specs.States.{Decoding}
+use Rattle.jpeg_decoder.specs.ByRows.{strip_size, unit_lines}
 use Rattle.jpeg_decoder.specs.declared.sizes.DecodingBytes.{DecodingBytes}
 
 -- ---- the picture
@@ -128,10 +129,23 @@ abbrev pub beside_planes : CodingProcess → ℕ → ℕ → ℕ
 beside_planes Lossless samples picture = picture
 beside_planes _ samples picture = if samples == 1 then 0 else picture
 
+-- What is kept beside the blocks of a row of MCUs where lines are given as a scan is read: the
+-- samples of two rows of MCUs, the lines that one decides, which may be a line more than it makes,
+-- and room for a line.
+unfoldable pub window_bytes : Frame → ℕ
+window_bytes f = 2 * sum_by strip_size f.components
+    + (unit_lines f.components + 2) * (length f.components * f.output_width)
+
+-- What is kept where lines are given one after the other: of a sequential frame as its first scan
+-- is read, and else of the planes. The luma alone is given of these, too.
+abbrev pub rows_bytes : CodingProcess → Bool → ℕ → ℕ → ℕ → ℕ
+rows_bytes DctSequential false coefficients planes window = coefficients + window
+rows_bytes _ _ coefficients planes window = coefficients + planes
+
 -- The blocks that are read, the planes and the picture, and the most of them at a time: blocks and
 -- planes while scans are read, and planes and picture at the end.
-abbrev pub bytes_of_shape : Shape → Frame → DecodingBytes
-bytes_of_shape shape f =
+abbrev pub bytes_of_shape : Bool → Shape → Frame → DecodingBytes
+bytes_of_shape luma shape f =
     let coefficients = sum_by (coefficient_bytes f.process) f.components in
     let planes = sum_by (plane_bytes f.process) f.components in
     let picture = picture_size shape in
@@ -141,8 +155,9 @@ bytes_of_shape shape f =
       planes = planes;
       picture = picture;
       peak = max (coefficients + planes) end;
+      rows = rows_bytes f.process luma coefficients planes (window_bytes f);
     }
 
 -- those of the picture of a frame by the settings
 abbrev pub decoding_bytes : Settings → Frame → DecodingBytes
-decoding_bytes settings f = bytes_of_shape (shape_of settings f) f
+decoding_bytes settings f = bytes_of_shape settings.luma (shape_of settings f) f

@@ -17,6 +17,14 @@ plane_bytes-planes-requires c =
     (factors-at (map component_in cs) c.loop-i.i _ c.requires.sampling
     (omega (arith, c.loop-i-test.true, c.len-i-end.ensures, length-map cs component_in))).scale_most
 
+pub strip_bytes-strips-requires : goal.strip_bytes-strips-requires
+strip_bytes-strips-requires c =
+    let cs = c.args.frame.now.components.items in
+    subst (λ (x : Component). x.scale ≤ 8)
+    (mapped-at component_in cs c.loop-i.i c.index-component.result.now c.index-component.ensures)
+    (factors-at (map component_in cs) c.loop-i.i _ c.requires.sampling
+    (omega (arith, c.loop-i-test.true, c.len-i-end.ensures, length-map cs component_in))).scale_most
+
 pub loop-i-preserved : goal.loop-i-preserved
 loop-i-preserved c =
     let cs = c.args.frame.now.components.items in
