@@ -1,24 +1,24 @@
 -- A stream that is walked from a checkpoint on, whatever bytes follow.
-use Rattle.std.proofs.Common.{◌≡◌, ◌∙◌, ◌++◌, ◌+◌, ◌<◌, ◌≤◌, ap, refl, sym, subst, ℕ, suc, zero, Bool, true, false}
-use Rattle.std.proofs.Common.{List, [], ◌∷◌, Option, None, Ok, Err, Result, arith, length, length-append, append-nil}
-use Rattle.std.proofs.Common.{append_assoc, le_refl, rules}
-use Rattle.jpeg_bits.specs.Reading.{Fault}
+use Rattle.std.proofs.Common.{◌≡◌, ◌∙◌, ◌++◌, ◌+◌, ap, refl, sym, ℕ, suc, true, false}
+use Rattle.std.proofs.Common.{List, [], Option, None, Ok, arith, length, length-append, append-nil}
+use Rattle.std.proofs.Common.{Some, append_assoc, is_some, le_refl, rules}
+use Rattle.std.proofs.lemmas.Bool.{true≢false}
 use Rattle.jpeg_bits.specs.declared.beyond.Beyond.TheVariants.{Nothing}
+use Rattle.jpeg_segments.specs.Frame.{Frame}
 use Rattle.jpeg_meaning.specs.declared.before.Before.TheVariants.{Elsewhere}
-use Rattle.jpeg_meaning.specs.declared.settings.Settings.{Settings}
 use Rattle.jpeg_meaning.specs.Found.{Found, nothing_found}
-use Rattle.jpeg_meaning.specs.Shown.{rows_of_found, shown_of, shown_rest_within, shown_within, whole_rows_rest}
-use Rattle.jpeg_meaning.specs.Shown.{whole_rows_within}
-use Rattle.jpeg_meaning.specs.Stream.{Walked, start_at, turn_within, walk}
+use Rattle.jpeg_meaning.specs.Stream.{Walked, all_brought, header_at, start_at, turn_within, walk}
 use Rattle.jpeg_meaning.specs.Work.{left_after, work_of_turn}
 use Rattle.jpeg_meaning.proofs.Longer.LongerSegments.{Stays, byte-stays, stays-bind, stays-err, stays-if, stays-ok, stays-read}
 use Rattle.jpeg_meaning.proofs.Longer.LongerSteps.{turn-stays}
-use Rattle.jpeg_meaning.proofs.Written.ReadTurns.{then-ok, walk-on}
+use Rattle.jpeg_meaning.proofs.Written.ReadTurns.{ok-same, walk-on}
 use Rattle.jpeg_decoder.specs.Fed.{IsCheckpoint}
 use Rattle.jpeg_decoder.specs.Steps.{turn_of}
 use Rattle.jpeg_decoder.specs.Walks.{steps_over}
 use Rattle.jpeg_decoder.specs.declared.stream.state.Step.{Step}
-use Rattle.jpeg_decoder.proofs.Segments.LeftBytes.{left-most, left_at}
+use Rattle.jpeg_decoder.proofs.Partial.FramesStay.{longer-frames, walk-frames}
+use Rattle.jpeg_decoder.proofs.Segments.HeaderThenRest.{GoesOn, goes-on, header-framed}
+use Rattle.jpeg_decoder.proofs.Segments.LeftBytes.{left-most}
 use Rattle.jpeg_decoder.proofs.Segments.TurnLoops.{onward_step}
 use Rattle.jpeg_decoder.proofs.Segments.Turns.{turn-takes, turns-enough}
 
@@ -106,19 +106,59 @@ starts : {limit : Option ℕ} {bytes : List ℕ} {left : Option ℕ} {step : Ste
 starts {bytes = bytes} h =
     ap start_at (sym (append-nil bytes)) ∙ h.started [] ∙ ap (λ (l : List ℕ). Ok (tt, l)) (append-nil h.front)
 
-pub checkpoint-shows : (limit : Option ℕ) (settings : Settings) (bytes : List ℕ) (left : Option ℕ) (step : Step)
-    (found : Found) (rest : List ℕ) → IsCheckpoint limit bytes left step found rest
-    → shown_within limit settings bytes
-    ≡ shown_of settings (steps_over left Nothing found step rest).found (steps_over left Nothing found step rest).rest
-unfolding shown_within shown_rest_within
-checkpoint-shows limit settings bytes left step found rest h =
-    then-ok (start_at bytes) _ (tt, h.front) _ (starts h)
-    (ap (λ (w : Walked). shown_of settings w.found w.rest) (walk-whole h))
+same-start : {limit : Option ℕ} {bytes : List ℕ} {left : Option ℕ} {step : Step} {found : Found} {rest start : List ℕ}
+    → (h : IsCheckpoint limit bytes left step found rest) → start_at bytes ≡ Ok (tt, start) → start ≡ h.front
+same-start h e = ap (λ (p : Unit {0} × List ℕ). p.1) (ok-same _ _ (sym e ∙ starts h))
 
-pub checkpoint-counts : (limit : Option ℕ) (bytes : List ℕ) (left : Option ℕ) (step : Step)
-    (found : Found) (rest : List ℕ) → IsCheckpoint limit bytes left step found rest
-    → whole_rows_within limit bytes
-    ≡ rows_of_found (steps_over left Nothing found step rest).rows (steps_over left Nothing found step rest).found
-unfolding whole_rows_within whole_rows_rest
-checkpoint-counts limit bytes left step found rest h =
-    rw (starts h, whole_rows_within) (ap (λ (w : Walked). rows_of_found w.rows w.found) (walk-whole h))
+-- ---- after a header
+
+-- the rest of the stream after its header is walked as what follows the checkpoint
+pub checkpoint-walks : (limit : Option ℕ) (bytes : List ℕ) (left : Option ℕ) (step : Step) (found : Found)
+    (rest : List ℕ) (header : Found) (after : List ℕ) → IsCheckpoint limit bytes left step found rest
+    → header_at bytes ≡ Ok (header, after)
+    → all_brought limit header after ≡ steps_over left Nothing found step rest
+checkpoint-walks limit bytes left step found rest header after h e =
+    let g = goes-on limit Nothing header bytes after e in
+    sym g.whole
+    ∙ ap (λ (l : List ℕ). walk limit Nothing (suc (length l)) false Elsewhere nothing_found None l) (same-start h g.starts)
+    ∙ walk-whole h
+
+-- what is found by the turns before it
+turns-found : {limit : Option ℕ} {bytes : List ℕ} {left : Option ℕ} {step : Step} {found : Found} {rest : List ℕ}
+    → (h : IsCheckpoint limit bytes left step found rest)
+    → (walk limit Nothing (h.turns + 0) false Elsewhere nothing_found None h.front).found ≡ found
+unfolding walk
+turns-found h =
+    ap (λ (l : List ℕ). (walk _ Nothing (h.turns + 0) false Elsewhere nothing_found None l).found)
+    (sym (append-nil h.front))
+    ∙ ap (λ (w : Walked). w.found) (h.walks [] 0)
+
+-- and if a frame was found, it is that of the header
+pub checkpoint-frames : (limit : Option ℕ) (bytes : List ℕ) (left : Option ℕ) (step : Step) (found : Found)
+    (rest : List ℕ) (header : Found) (after : List ℕ) → IsCheckpoint limit bytes left step found rest
+    → header_at bytes ≡ Ok (header, after) → is_some found.said.frame ≡ true
+    → found.said.frame ≡ header.said.frame
+checkpoint-frames limit bytes left step found rest header after h e some =
+    go found.said.frame header.said.frame refl refl some (header-framed header bytes after e)
+  where
+    g : GoesOn limit Nothing header bytes after
+    g = goes-on limit Nothing header bytes after e
+
+    whole : ℕ → List ℕ → Option Frame
+    whole k l = (walk limit Nothing k false Elsewhere nothing_found None l).found.said.frame
+
+    at : (own next : Frame) → found.said.frame ≡ Some own → header.said.frame ≡ Some next → Some own ≡ Some next
+    at own next is also =
+        let swap : h.turns + 0 + g.turns ≡ g.turns + h.turns = omega arith in
+        sym (longer-frames (h.turns + 0) g.turns limit Elsewhere own nothing_found None h.front
+        (ap (λ (f : Found). f.said.frame) (turns-found h) ∙ is))
+        ∙ ap (λ (k : ℕ). whole k h.front) swap
+        ∙ ap (whole (g.turns + h.turns)) (sym (same-start h g.starts))
+        ∙ ap (λ (w : Walked). w.found.said.frame) (g.after h.turns)
+        ∙ walk-frames h.turns limit Elsewhere next header None after also
+
+    go : (o p : Option Frame) → found.said.frame ≡ o → header.said.frame ≡ p → is_some o ≡ true → is_some p ≡ true
+        → found.said.frame ≡ header.said.frame
+    go (Some own) (Some next) is also a b = is ∙ at own next is also ∙ sym also
+    go None p is also a b = absurd (true≢false (sym a))
+    go (Some own) None is also a b = absurd (true≢false (sym b))

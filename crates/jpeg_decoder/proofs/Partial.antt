@@ -19,5 +19,6 @@ pub mod ShownFaults
 pub mod ShownRows
 pub mod ShownTold
 pub mod ShownBegun
+pub mod ShownWalks
 pub mod ShownLines
 pub mod FramesStay

@@ -3,15 +3,21 @@
 -- read of it before its fault does.
 use Rattle.std.specs.Prelude.{◌≡◌, ◌+◌, ◌<◌, ◌^◌, ℕ, suc, List, length, Bool, true, false, Option}
 use Rattle.std.specs.Prelude.{None, Result, Ok, OnOk}
-use Rattle.jpeg_bits.specs.Reading.{Outcome, ◌>>=◌}
+use Rattle.std.specs.List.{concat}
+use Rattle.jpeg_bits.specs.Reading.{Answers, Outcome, ◌>>=◌}
 use Rattle.jpeg_bits.specs.Stream.{Stream}
 use Rattle.jpeg_bits.specs.declared.error.Error.{Error}
 use Rattle.jpeg_meaning.specs.Found.{Found}
-use Rattle.jpeg_meaning.specs.Stream.{Walked, told_of, walk}
+use Rattle.jpeg_meaning.specs.Shown.{rows_of_found, shown_of}
+use Rattle.jpeg_meaning.specs.States.{OnTold, OnToldRefusal}
+use Rattle.jpeg_meaning.specs.Stream.{Told, Walked, told_of, walk}
+use Rattle.jpeg_meaning.specs.declared.settings.Settings.{Settings}
 use Rattle.jpeg_meaning.specs.declared.before.Before.TheVariants.{Elsewhere}
 use Rattle.jpeg_bits.specs.declared.beyond.Beyond.{Beyond}
 use Rattle.jpeg_bits.specs.declared.beyond.Beyond.TheVariants.{Nothing, Zeros}
-use Rattle.jpeg_decoder.specs.Reaching.{UnlessRefused, without_tables}
+use Rattle.jpeg_decoder.specs.Reaching.{UnlessRefused, walk_end, without_tables}
+use Rattle.jpeg_decoder.specs.Shows.{CountsRows, GivesUp, Knows, ShowsJust}
+use Rattle.jpeg_decoder.specs.declared.picture.partial.PartialLines.{PartialLines}
 use Rattle.jpeg_decoder.specs.declared.scan.work.Walk.{Walk}
 use Rattle.jpeg_decoder.specs.declared.stream.state.Step.{Step}
 
@@ -68,3 +74,24 @@ known_if k s = record s { known = k }
 
 abbrev pub IsKnownIf : Bool → ℕ → Stream → Type 0
 IsKnownIf k more s = k ≡ true → (s.known ≡ true) × (length s.bytes + more < 2 ^ 64)
+
+-- ---- what a walk shows
+
+-- A walk over the bytes of a source has ended so, and has left what was found.
+pub record IsEndOfWalk (w : Walked) (old : Stream) (ended : Result (Unit {0}) Error)
+    (found : Found) (walk : Walk) (new : Stream) : Type 0 where
+  pub reads : UnlessRefused ended
+      (Answers (λ (u : Unit {0}). tt) (λ bytes. walk_end w) old ended new)
+  pub leaves : OnTold old new ended (Leaves Nothing found walk.rows w.found w.rows)
+  pub exceeded : OnTold old new ended (walk.budget.exceeded ≡ w.exceeded)
+
+-- A call has shown what a walk over the bytes of a source brings up to its first fault.
+pub record ShowsWalk (settings : Settings) (w : Walked) (old : Stream)
+    (result : Result PartialLines Error) (new : Stream) (told : Told) (exceeded : Bool) : Type 0
+  where
+    pub shown : ShowsJust (λ bytes. shown_of settings w.found w.rest) (λ p. concat p.lines)
+        (λ p. p.fault) old result new told
+    pub rows : CountsRows (λ p. p.whole_rows) (λ bytes. rows_of_found w.rows w.found) old result new
+    pub tells : OnToldRefusal old new result (told ≡ told_of w.found.said)
+    pub exceeds : Knows old result new (exceeded ≡ w.exceeded)
+    pub given_up : GivesUp (λ p. p.fault) old result new

@@ -1,13 +1,14 @@
 //! The decoder and its states.
 ghost use Rattle.std.specs.Prelude.{◌≡◌, if◌then◌else◌, IfOk, IfErr, MatchResult, OnErr, OnOk};
 ghost use Rattle.std.specs.Prelude.{IsErrAnd, map, Some, [], replicate, IfSome, None, option_map};
-ghost use Rattle.std.specs.Prelude.{is_some, Err, List, true, false, ℕ, ◌<◌};
+ghost use Rattle.std.specs.Prelude.{is_some, Err, List, true, false, ℕ, ◌+◌, ◌<◌, ◌^◌};
 ghost use Rattle.std.specs.Io.KnownBytes.{prepend_known};
 ghost use Rattle.jpeg_bits.specs.Reading.{Answers};
 ghost use Rattle.jpeg_bits.specs.Stream.{stream_of};
+ghost use Rattle.jpeg_bits.specs.declared.beyond.Beyond.TheVariants.{Nothing};
 ghost use Rattle.jpeg_bits.specs.declared.error.Error.TheVariants.{OutOfMemory};
-ghost use Rattle.jpeg_meaning.specs.Stream.{header_at, scaled_header_at, scaled_to, told_of};
-ghost use Rattle.jpeg_meaning.specs.Stream.{sized_header_at, sized_to};
+ghost use Rattle.jpeg_meaning.specs.Stream.{all_brought, header_at, scaled_header_at, scaled_to};
+ghost use Rattle.jpeg_meaning.specs.Stream.{sized_header_at, sized_to, told_of};
 ghost use Rattle.jpeg_meaning.specs.Found.{nothing_found, with_said};
 ghost use Rattle.jpeg_meaning.specs.Reported.{IsOfTurns};
 ghost use Rattle.jpeg_meaning.specs.States.{Decoding, MovesToHeader, IsReading, ahead, told_ahead};
@@ -21,6 +22,7 @@ ghost use Rattle.jpeg_decoder.specs.Bytes.{AreLinesOf, AreOwnPlanes, HasRoom, Is
 ghost use Rattle.jpeg_decoder.specs.Bytes.{decoding_bytes, picture_size, shape_in, shape_of};
 ghost use Rattle.jpeg_decoder.specs.HeaderAlone.{ReadsHeaderAlone};
 ghost use Rattle.jpeg_decoder.specs.StreamTransforms.{frame_transform};
+ghost use Rattle.jpeg_decoder.specs.Walks.{steps_over};
 ghost use Rattle.jpeg_meaning.specs.States.{IsInternal};
 ghost use Rattle.std.specs.Prelude.{◌≤◌, drop, length, take};
 ghost use Rattle.jpeg_meaning.specs.Pixels.{format_of, info_by};
@@ -32,18 +34,19 @@ ghost use Rattle.jpeg_segments.specs.Scales.{IsSizedFrame, is_scale, scale_for, 
 ghost use Rattle.jpeg_meaning.specs.Output.{default_settings};
 ghost use Rattle.jpeg_meaning.specs.Profile.{profile_of};
 ghost use Rattle.std.specs.Option.{option_copied};
-ghost use Rattle.jpeg_meaning.specs.Shown.{whole_rows_ahead};
+ghost use Rattle.jpeg_meaning.specs.Shown.{whole_rows_ahead, whole_rows_rest};
 ghost use Rattle.jpeg_meaning.specs.Work.{picture_blocks};
 
 use crate::by_rows::first_scan::RowScan;
 use crate::by_rows::rest::{Begun, begin_rest, read_more};
+use crate::fed::checkpoint::Checkpoint;
 use crate::picture::color_choice::frame_transform;
 use crate::picture::lines::Lines;
-use crate::picture::partial::{PartialLines, show_rest};
+use crate::picture::partial::{PartialLines, show_from, show_rest};
 use crate::picture::rest::{read_rest, read_rest_planes};
 use crate::picture::whole::read_header;
 use crate::scan::decoded::Decoded;
-use crate::scan::work::picture_blocks;
+use crate::scan::work::{Budget, Walk, picture_blocks};
 use crate::sizes::{DecodingBytes, decoding_bytes, picture_bytes, samples_shown};
 use crate::stream::profile::join_profile;
 use crate::stream::state::State;
@@ -51,6 +54,7 @@ pub use jpeg_bits::color_transform::ColorTransform;
 use jpeg_bits::error::{Error, Result};
 pub use jpeg_bits::scan::MAX_COMPONENTS;
 use jpeg_bits::source::Source;
+use jpeg_bits::source::slice_reader::SliceReader;
 pub use jpeg_meaning::images::{ImageInfo, PixelFormat};
 use jpeg_meaning::progress::Progress;
 use jpeg_meaning::settings::Settings;
@@ -429,6 +433,13 @@ impl<R: Read + Drop> Decoder<R> {
         } }
     {
         self.settings.max_blocks = max;
+    }
+
+    /// Returns how many blocks the scans of a stream may code, if there is a limit.
+    pub(crate) fn max_blocks(&self) -> Option<u64>
+        ensures { result ≡ self.now.settings.max_blocks }
+    {
+        self.settings.max_blocks
     }
 
     /// Sets all that a caller can set.
@@ -1006,5 +1017,58 @@ impl<R: Read + Drop> Decoder<R> {
         let said = &self.state.said;
         let frame = said.frame.as_ref()?;
         Some(frame_transform(&said.metadata, frame))
+    }
+}
+
+impl<'a> Decoder<SliceReader<'a>> {
+    /// Shows what `decode_partial_lines` shows, and reads only what follows a checkpoint of the
+    /// stream, which are these bytes.
+    pub(crate) fn show_lines_after(
+        &mut self,
+        checkpoint: &Checkpoint,
+        rest: &'a [u8],
+    ) -> Result<PartialLines>
+        requires stage { self.old.stage ≡ HeaderRead }
+        requires known { self.old.source.known ≡ true }
+        requires sound { IsSound checkpoint.now.state }
+        requires framed { checkpoint.now.state.said.frame ≡ self.old.found.said.frame }
+        requires walks { let c = checkpoint.now in
+            all_brought self.old.settings.max_blocks self.old.found self.old.source.bytes
+            ≡ steps_over c.left Nothing c.state c.step rest.now }
+        requires short { length rest.now + 1 < 2 ^ 64 }
+        ensures shows { Shows (λ p. concat p.lines) (λ p. p.fault) self.old result self.new }
+        ensures rows { CountsRows (λ p. p.whole_rows)
+            (whole_rows_rest self.old.settings.max_blocks self.old.found)
+            self.old.source result self.new.source }
+        ensures settings { self.new.settings ≡ self.old.settings }
+        ensures stays { self.new.found.said.frame ≡ self.old.found.said.frame }
+        ensures framed { IfOk result (λ _. is_some self.new.found.said.frame ≡ true) }
+        ensures lines { IfOk result (λ p. AreLinesOf (shape_in self.new) p.lines) }
+        ensures size { IfOk result (λ p. IsWhole (shape_in self.new) (concat p.lines)) }
+        ensures counted { IfOk result (λ _. IsCounted (shape_in self.new)) }
+    {
+        if let Err(error) = checkpoint.resume(self.alloc, rest, &mut self.source, &mut self.state) {
+            drop_decoded(&mut self.state, self.alloc);
+            self.progress = Progress::Failed;
+            return Err(error);
+        }
+        let mut walk = Walk {
+            budget: Budget {
+                left: checkpoint.left,
+                exceeded: false,
+            },
+            rows: None,
+        };
+        let result = show_from(
+            self.alloc,
+            &mut self.source,
+            &mut self.state,
+            checkpoint.step,
+            &mut walk,
+            self.settings,
+        );
+        self.exceeded = walk.budget.exceeded;
+        self.progress = progress_after(result.is_ok(), Progress::Finished);
+        result
     }
 }

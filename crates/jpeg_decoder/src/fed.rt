@@ -1,6 +1,6 @@
 //! A decoder that is fed the bytes of a stream in pieces, as they arrive.
 ghost use Rattle.std.specs.Prelude.{◌≡◌, ◌++◌, Ok, Some, MatchResult, IfErr, IfOk, OnErr};
-ghost use Rattle.std.specs.Prelude.{IsSomeAnd, OnOk, [], false, option_map, true};
+ghost use Rattle.std.specs.Prelude.{IfSome, IsSomeAnd, OnOk, [], false, is_some, option_map, true};
 ghost use Rattle.std.specs.Prelude.{◌≤◌, ◌<◌, ◌+◌, ◌^◌, drop, length};
 ghost use Rattle.std.specs.List.{concat};
 ghost use Rattle.jpeg_bits.specs.Reading.{IsGivenUp, Names};
@@ -10,16 +10,18 @@ ghost use Rattle.jpeg_meaning.specs.Pixels.{info_by};
 ghost use Rattle.jpeg_meaning.specs.Shown.{shown_rest_within, whole_rows_rest};
 ghost use Rattle.jpeg_meaning.specs.Stream.{header_at, told_of};
 ghost use Rattle.jpeg_meaning.specs.declared.progress.Progress.TheVariants.{Fresh, HeaderRead};
-ghost use Rattle.jpeg_decoder.specs.Bytes.{AreLinesOf, IsWhole, shape_in};
+ghost use Rattle.jpeg_decoder.specs.Bytes.{AreLinesOf, IsCounted, IsWhole, shape_in};
 ghost use Rattle.jpeg_decoder.specs.Fed.{IsAt, ShowsFed, fed_by, frame_of, shape_fed};
-ghost use Rattle.jpeg_decoder.specs.Shows.{IsShown};
+ghost use Rattle.jpeg_decoder.specs.Shows.{CountsRows, IsShown, Shows};
 
 pub(crate) mod checkpoint;
 pub(crate) mod lookahead;
+pub(crate) mod sources;
 
 use crate::decoder::{Decoder, PartialPicture};
-use crate::fed::checkpoint::{Checkpoint, READ_AHEAD, move_on, source_of};
-use crate::picture::partial::{PartialLines, show_from};
+use crate::fed::checkpoint::{Checkpoint, move_on};
+use crate::fed::sources::READ_AHEAD;
+use crate::picture::partial::PartialLines;
 use jpeg_bits::color_transform::ColorTransform;
 use jpeg_bits::error::{Error, Result};
 use jpeg_bits::source::slice_reader::SliceReader;
@@ -96,38 +98,6 @@ fn is_lost(has_failed: bool, shown: &Result<PartialLines>) -> bool
     }
 }
 
-/// Shows what bytes in memory bring after their header. Their reader isn't given up: where it is
-/// all the same, it counts as a lack of memory.
-fn show_rest<R: Read + Drop>(decoder: &mut Decoder<R>) -> Result<PartialLines>
-    requires stage { decoder.old.stage ≡ HeaderRead }
-    requires known { decoder.old.source.known ≡ true }
-    ensures shown { let d = decoder.old in IsShown
-        (shown_rest_within d.settings.max_blocks d.settings d.found d.source.bytes)
-        (λ p. concat p.lines) (λ p. p.fault) result (told_of decoder.new.found.said) }
-    ensures rows { let d = decoder.old in IfOk result (λ p. p.whole_rows
-        ≡ whole_rows_rest d.settings.max_blocks d.found d.source.bytes) }
-    ensures lines { IfOk result (λ p. AreLinesOf (shape_in decoder.old) p.lines) }
-    ensures size { IfOk result (λ p. IsWhole (shape_in decoder.old) (concat p.lines)) }
-{
-    let shown = decoder.decode_partial_lines();
-    if is_lost(decoder.has_read_failed(), &shown) {
-        return Err(Error::OutOfMemory);
-    }
-    shown
-}
-
-/// Shows what bytes in memory bring.
-fn show<R: Read + Drop>(decoder: &mut Decoder<R>) -> Result<PartialLines>
-    requires fresh { decoder.old.stage ≡ Fresh }
-    requires known { decoder.old.source.known ≡ true }
-    ensures shows { ShowsFed (λ p. concat p.lines) (λ p. p.fault) (λ p. p.whole_rows)
-        (fed_by decoder.old) result }
-    ensures lines { IfOk result (λ p. AreLinesOf (shape_fed (fed_by decoder.old)) p.lines) }
-{
-    read_header(decoder)?;
-    show_rest(decoder)
-}
-
 /// Returns the bytes after the first ones, of which there are at least two.
 fn bytes_after(bytes: &[u8], offset: usize) -> &[u8]
     requires begun { 2 ≤ offset }
@@ -138,35 +108,11 @@ fn bytes_after(bytes: &[u8], offset: usize) -> &[u8]
     bytes.split_at(offset).1
 }
 
-/// Shows what bytes in memory bring after a checkpoint of them. Their reader isn't given up: where it
-/// is all the same, it counts as a lack of memory.
-fn show_after(
-    alloc: Global,
-    bytes: &[u8],
-    checkpoint: &Checkpoint,
-    settings: Settings,
-) -> Result<PartialLines>
-    requires { IsAt settings.max_blocks bytes.now checkpoint.now }
-    ensures shows { ShowsFed (λ p. concat p.lines) (λ p. p.fault) (λ p. p.whole_rows)
-        (record { settings = settings; bytes = bytes.now }) result }
-    ensures lines { IfOk result (λ p. AreLinesOf
-        (shape_fed (record { settings = settings; bytes = bytes.now })) p.lines) }
+/// Returns whether two limits on blocks are the same.
+fn is_same_limit(limit: Option<u64>, other: Option<u64>) -> bool
+    ensures { result ≡ true → limit ≡ other }
 {
-    let mut source = source_of(alloc, bytes_after(bytes, checkpoint.offset))?;
-    let mut state = checkpoint.state.copied(alloc)?;
-    let step = checkpoint.step;
-    let shown = show_from(
-        alloc,
-        &mut source,
-        &mut state,
-        step,
-        checkpoint.left,
-        settings,
-    );
-    if is_lost(source.has_failed(), &shown) {
-        return Err(Error::OutOfMemory);
-    }
-    shown
+    limit == other
 }
 
 /// Takes the bytes of a stream in pieces, as they arrive, and shows at any time what they have
@@ -260,9 +206,11 @@ impl FedDecoder {
               { max_blocks = max };
         } }
     {
+        if !is_same_limit(max, self.settings.max_blocks) {
+            self.checkpoint = None;
+            self.stop = usize::MAX;
+        }
         self.settings.max_blocks = max;
-        self.checkpoint = None;
-        self.stop = usize::MAX;
     }
 
     /// Takes the next bytes of the stream. The only error is `OutOfMemory`, in which case none of
@@ -278,6 +226,13 @@ impl FedDecoder {
     {
         self.bytes.extend_from_slice(piece)?;
         Ok(())
+    }
+
+    /// Returns all bytes that were fed.
+    pub fn bytes(&self) -> &[u8]
+        ensures { result.now ≡ self.now.bytes }
+    {
+        &self.bytes
     }
 
     /// Returns a decoder of all bytes that were fed.
@@ -306,6 +261,105 @@ impl FedDecoder {
         info_of(&mut self.decoder()?)
     }
 
+    /// Reads each segment and each whole scan that has arrived, once and for all, so that what is
+    /// shown from then on begins after them. The only error is `OutOfMemory`, after which they are
+    /// read again.
+    pub fn read_on(&mut self) -> Result<()>
+        // The settings and the bytes stay.
+        ensures same { self.new ≡ self.old }
+        ensures err { IfErr result (λ e. e ≡ OutOfMemory) }
+    {
+        let from = self.checkpoint.take();
+        let most = self.settings.max_blocks;
+        self.checkpoint = move_on(self.alloc, &self.bytes, most, from, &mut self.stop)?;
+        Ok(())
+    }
+
+    /// Returns the checkpoint, if it stands after the header and is one for this limit on blocks.
+    fn checkpoint_within(&self, max_blocks: Option<u64>) -> Option<&Checkpoint>
+        ensures at { IfSome result (λ c. IsAt max_blocks self.now.bytes c.now) }
+        ensures framed { IfSome result (λ c. is_some c.now.state.said.frame ≡ true) }
+    {
+        let checkpoint = self.checkpoint.as_ref()?;
+        if checkpoint.state.said.frame.is_none() {
+            return None;
+        }
+        if !is_same_limit(self.settings.max_blocks, max_blocks) {
+            return None;
+        }
+        Some(checkpoint)
+    }
+
+    /// Returns what [`Decoder::decode_partial_lines`] of this decoder returns, and leaves it as
+    /// that does. It has to be a decoder of all bytes that were fed, which has read the header and
+    /// wasn't scaled; its settings count. What `read_on` has read isn't read again if both have the
+    /// same limit on blocks.
+    pub fn show_lines_by<'a>(
+        &'a self,
+        decoder: &mut Decoder<SliceReader<'a>>,
+    ) -> Result<PartialLines>
+        requires stage { decoder.old.stage ≡ HeaderRead }
+        requires known { decoder.old.source.known ≡ true }
+        requires header { header_at self.now.bytes
+            ≡ Ok (decoder.old.found, decoder.old.source.bytes) }
+
+        // What the bytes after the header bring, and the state: see `Shows`.
+        ensures shows { Shows (λ p. concat p.lines) (λ p. p.fault) decoder.old result decoder.new }
+
+        // It counts the complete rows of the picture.
+        ensures rows { CountsRows (λ p. p.whole_rows)
+            (whole_rows_rest decoder.old.settings.max_blocks decoder.old.found)
+            decoder.old.source result decoder.new.source }
+
+        // The settings stay.
+        ensures settings { decoder.new.settings ≡ decoder.old.settings }
+
+        // The frame stays.
+        ensures stays { decoder.new.found.said.frame ≡ decoder.old.found.said.frame }
+
+        // After an Ok there is a frame, so that `info` answers.
+        ensures framed { IfOk result (λ _. is_some decoder.new.found.said.frame ≡ true) }
+
+        // There are as many lines as `info` says, each of as many bytes as the frame says.
+        ensures lines { IfOk result (λ p. AreLinesOf (shape_in decoder.new) p.lines) }
+
+        // Together they are a picture as `decode` returns it.
+        ensures size { IfOk result (λ p. IsWhole (shape_in decoder.new) (concat p.lines)) }
+
+        // There are as many samples as the format of `info` says.
+        ensures counted { IfOk result (λ _. IsCounted (shape_in decoder.new)) }
+    {
+        match self.checkpoint_within(decoder.max_blocks()) {
+            Some(checkpoint) => {
+                let rest = bytes_after(&self.bytes, checkpoint.offset);
+                decoder.show_lines_after(checkpoint, rest)
+            }
+            None => decoder.decode_partial_lines(),
+        }
+    }
+
+    /// Shows what the bytes bring after their header, which a decoder of them has read. Its reader
+    /// isn't given up: where it is all the same, it counts as a lack of memory.
+    fn show_rest<'a>(&'a self, decoder: &mut Decoder<SliceReader<'a>>) -> Result<PartialLines>
+        requires stage { decoder.old.stage ≡ HeaderRead }
+        requires known { decoder.old.source.known ≡ true }
+        requires header { header_at self.now.bytes
+            ≡ Ok (decoder.old.found, decoder.old.source.bytes) }
+        ensures shown { let d = decoder.old in IsShown
+            (shown_rest_within d.settings.max_blocks d.settings d.found d.source.bytes)
+            (λ p. concat p.lines) (λ p. p.fault) result (told_of decoder.new.found.said) }
+        ensures rows { let d = decoder.old in IfOk result (λ p. p.whole_rows
+            ≡ whole_rows_rest d.settings.max_blocks d.found d.source.bytes) }
+        ensures lines { IfOk result (λ p. AreLinesOf (shape_in decoder.old) p.lines) }
+        ensures size { IfOk result (λ p. IsWhole (shape_in decoder.old) (concat p.lines)) }
+    {
+        let shown = self.show_lines_by(decoder);
+        if is_lost(decoder.has_read_failed(), &shown) {
+            return Err(Error::OutOfMemory);
+        }
+        shown
+    }
+
     /// Returns the lines of the picture that the bytes have brought so far, and their first fault:
     /// see `show`.
     pub fn show_lines(&mut self) -> Result<PartialLines>
@@ -319,13 +373,10 @@ impl FedDecoder {
         // The settings and the bytes stay.
         ensures same { self.new ≡ self.old }
     {
-        let from = self.checkpoint.take();
-        let most = self.settings.max_blocks;
-        self.checkpoint = move_on(self.alloc, &self.bytes, most, from, &mut self.stop)?;
-        match &self.checkpoint {
-            Some(checkpoint) => show_after(self.alloc, &self.bytes, checkpoint, self.settings),
-            None => show(&mut self.decoder()?),
-        }
+        self.read_on()?;
+        let mut decoder = self.decoder()?;
+        read_header(&mut decoder)?;
+        self.show_rest(&mut decoder)
     }
 
     /// Returns the picture that the bytes have brought so far, and their first fault: what
@@ -333,9 +384,10 @@ impl FedDecoder {
     /// together, however they were fed. While the stream isn't complete the fault is that it ends.
     ///
     /// More bytes can be fed after it. Each segment and each whole scan of the stream is read once,
-    /// by the first call after it has arrived; a call reads again only the scan in which the bytes
-    /// end, and makes the picture. So what the whole scans have brought is in memory twice while a
-    /// call runs. Where a whole scan has a fault, what stands before it is read once more.
+    /// by the first call after it has arrived; a call reads again only the header and the scan in
+    /// which the bytes end, and makes the picture. So what the whole scans have brought is in memory
+    /// twice while a call runs. Where a whole scan has a fault, what stands before it is read once
+    /// more.
     ///
     /// The errors are those of `decode_partial`: a fault where no frame header was accepted before
     /// it, as while the header isn't complete; `Format` if the picture is above the limit, the

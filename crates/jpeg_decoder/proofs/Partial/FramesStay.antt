@@ -1,9 +1,8 @@
 -- A frame that was read stays, whatever comes after it in a stream.
 use Rattle.std.proofs.Common.{◌≡◌, ◌⊎◌, ◌∙◌, inl, inr, ℕ, zero, suc, Bool, true, false, List, Option, Some, None}
-use Rattle.std.proofs.Common.{Result, Ok, Err, refl, sym, ap, subst}
+use Rattle.std.proofs.Common.{Result, Ok, Err, refl, sym, ap, subst, ◌+◌, arith}
 use Rattle.std.proofs.Common.{if◌then◌else◌, is_some}
 use Rattle.jpeg_bits.specs.Marker.{found_or, next_marker}
-use Rattle.jpeg_bits.specs.Passes.{Block}
 use Rattle.jpeg_bits.specs.Reading.{Fault, Lacks, Malformed, Outcome, ◌>>=◌}
 use Rattle.jpeg_bits.specs.declared.error.UnsupportedFeature.TheVariants.{Hierarchical}
 use Rattle.jpeg_bits.specs.declared.beyond.Beyond.TheVariants.{Nothing}
@@ -22,7 +21,7 @@ use Rattle.jpeg_meaning.specs.ScanSegments.{Coding, after_scan, codings_of, scan
 use Rattle.jpeg_meaning.specs.Scans.{Arrays}
 use Rattle.jpeg_meaning.specs.Segments.{Turn, frame_segment}
 use Rattle.jpeg_meaning.specs.Stream.{Walked, brought_after, scan_turn_at, segment_at, turn_at, turn_within, walk}
-use Rattle.jpeg_meaning.specs.Work.{brought_within, is_above, left_after, work_of_turn}
+use Rattle.jpeg_meaning.specs.Work.{is_above, left_after, work_of_turn}
 use Rattle.jpeg_meaning.specs.declared.before.Before.{Before}
 use Rattle.jpeg_meaning.proofs.Longer.LongerTurns.{FoundHeader, brought_of}
 use Rattle.jpeg_meaning.proofs.Partial.FittingFrames.{KeepsAll, after-keeps, framed, segment-keeps}
@@ -206,3 +205,52 @@ walk-frames zero left before frame found met bytes is = is
 walk-frames (suc turns) left before frame found met bytes is =
     walk-turn turns left before frame found met bytes is
     (λ l t rest h. walk-frames turns l t.before frame t.found t.met rest h)
+
+-- ---- longer walks
+
+longer-turn : (n m : ℕ) (left : Option ℕ) (before : Before) (frame : Frame) (found : Found) (met : Option Marker)
+    (bytes : List ℕ)
+    → ((l : Option ℕ) (t : Turn) (rest : List ℕ)
+    → HasFrame frame (walk l Nothing n false t.before t.found t.met rest).found
+    → HasFrame frame (walk l Nothing m false t.before t.found t.met rest).found)
+    → HasFrame frame (walk left Nothing (suc n) false before found met bytes).found
+    → HasFrame frame (walk left Nothing (suc m) false before found met bytes).found
+longer-turn n m left before frame found met bytes others is =
+    go (turn_within left Nothing before found met bytes).turn refl
+  where
+    at : (v w : Walked) → walk left Nothing (suc n) false before found met bytes ≡ v
+        → walk left Nothing (suc m) false before found met bytes ≡ w → (HasFrame frame v.found → HasFrame frame w.found)
+        → HasFrame frame (walk left Nothing (suc m) false before found met bytes).found
+    at v w e g h =
+        ap (λ (x : Walked). x.found.said.frame) g ∙ h (sym (ap (λ (x : Walked). x.found.said.frame) e) ∙ is)
+
+    goes : (t : Turn) (rest : List ℕ) → (turn_within left Nothing before found met bytes).turn ≡ Ok (t, rest)
+        → (b : Bool) → t.ended ≡ b
+        → HasFrame frame (walk left Nothing (suc m) false before found met bytes).found
+    goes t rest q true g =
+        at _ _ (walk-end left Nothing n false before found met bytes rest t refl q g)
+        (walk-end left Nothing m false before found met bytes rest t refl q g) (λ h. h)
+    goes t rest q false g =
+        at _ _ (walk-on left Nothing n false before found met bytes rest t refl q g)
+        (walk-on left Nothing m false before found met bytes rest t refl q g)
+        (others (left_after left (work_of_turn found met bytes)) t rest)
+
+    go : (r : Outcome Turn) → (turn_within left Nothing before found met bytes).turn ≡ r
+        → HasFrame frame (walk left Nothing (suc m) false before found met bytes).found
+    go (Err fault) q =
+        at _ _ (walk-refused left Nothing n false before found met bytes fault refl q)
+        (walk-refused left Nothing m false before found met bytes fault refl q) (λ h. h)
+    go (Ok x) q = goes x.0 x.1 q x.0.ended refl
+
+-- A frame that was found is still there after more turns.
+pub longer-frames : (n more : ℕ) (left : Option ℕ) (before : Before) (frame : Frame) (found : Found)
+    (met : Option Marker) (bytes : List ℕ) → HasFrame frame (walk left Nothing n false before found met bytes).found
+    → HasFrame frame (walk left Nothing (n + more) false before found met bytes).found
+unfolding walk
+longer-frames zero more left before frame found met bytes is =
+    walk-frames (zero + more) left before frame found met bytes is
+longer-frames (suc n) more left before frame found met bytes is =
+    let one : suc n + more ≡ suc (n + more) = omega arith in
+    ap (λ (k : ℕ). (walk left Nothing k false before found met bytes).found.said.frame) one
+    ∙ longer-turn n (n + more) left before frame found met bytes
+    (λ l t rest h. longer-frames n more l t.before frame t.found t.met rest h) is

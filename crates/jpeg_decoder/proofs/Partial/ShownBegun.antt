@@ -1,5 +1,6 @@
 -- Calls that read the header of a stream where it is to be read, and then show what the rest of it has brought.
-use Rattle.std.proofs.Common.{◌≡◌, ◌∙◌, ap, ℕ, Bool, List, Option, Result, Ok, Err, refl, subst, sym, true}
+use Rattle.std.proofs.Common.{◌≡◌, ◌∙◌, ap, ℕ, Bool, List, Option, Result, Ok, Err, IfErr, if◌then◌else◌, is_ok}
+use Rattle.std.proofs.Common.{refl, subst, sym, true}
 use Rattle.std.proofs.lemmas.Bool.{false≢true}
 use Rattle.std.proofs.lemmas.Result.{IfOk-weaker}
 use Rattle.jpeg_bits.specs.Reading.{Fault}
@@ -9,11 +10,11 @@ use Rattle.jpeg_bits.proofs.Loops.{Names-through}
 use Rattle.jpeg_meaning.specs.Found.{Found}
 use Rattle.jpeg_meaning.specs.Limits.{exceeded_ahead, exceeded_rest}
 use Rattle.jpeg_meaning.specs.Shown.{Shown, shown_ahead, shown_rest_within, shown_within, whole_rows_ahead, whole_rows_rest}
-use Rattle.jpeg_meaning.specs.States.{Decoding, IsReading, MovesToEnd, OnToldRefusal}
+use Rattle.jpeg_meaning.specs.States.{Decoding, IsOfBytes, IsReading, MovesToEnd, OnToldRefusal}
 use Rattle.jpeg_meaning.specs.Stream.{Told, header_at, told_of}
 use Rattle.jpeg_bits.specs.declared.beyond.Beyond.TheVariants.{Nothing}
 use Rattle.jpeg_meaning.specs.declared.progress.Progress.{Progress}
-use Rattle.jpeg_meaning.specs.declared.progress.Progress.TheVariants.{Fresh, HeaderRead}
+use Rattle.jpeg_meaning.specs.declared.progress.Progress.TheVariants.{Failed, Finished, Fresh, HeaderRead}
 use Rattle.jpeg_meaning.specs.declared.settings.Settings.{Settings}
 use Rattle.jpeg_meaning.proofs.Refusals.{told-err}
 use Rattle.jpeg_decoder.specs.Shows.{CountsRows, GivesUp, IsShown, Knows, Shows, ShowsJust, told_shown_ahead, told_shown_rest}
@@ -156,3 +157,19 @@ pub shows-rest : {X : Type 0} (bytes_of : X → List ℕ) (fault_of : X → Opti
 shows-rest bytes_of fault_of old mid new r b stage rest emptied =
     shows bytes_of fault_of old new r stage (shown-at bytes_of fault_of _ _ old.stage old mid new.source r b rest)
     (λ _. emptied)
+
+-- where the header was read before
+pub shows-header : {X : Type 0} (bytes_of : X → List ℕ) (fault_of : X → Option Error) (old new : Decoding)
+    (r : Result X Error) → old.stage ≡ HeaderRead → MovesToEnd HeaderRead new.stage r
+    → RestShown bytes_of fault_of (told_of new.found.said) new.exceeded old.settings old.found old.source r new.source
+    → IsEmptied new.found → Shows bytes_of fault_of old r new
+shows-header bytes_of fault_of old new r is stage rest emptied =
+    shows-rest bytes_of fault_of old old new r
+    (record { fresh = λ e. absurd (other-stage (sym is ∙ e)); still = λ _. refl; settings = refl })
+    (subst (λ (s : Progress). MovesToEnd s new.stage r) (sym is) stage) rest emptied
+
+-- the state after the end, or after a refusal
+pub end-moves : {X : Type 0} (r : Result X Error) (b : Bool) (p : Progress) → b ≡ is_ok r
+    → p ≡ (if b then Finished else Failed) → IfErr r IsOfBytes → MovesToEnd HeaderRead p r
+end-moves (Ok x) b p e q h = q ∙ ap (λ (b : Bool). if b then Finished else Failed) e
+end-moves (Err x) b p e q h = (q ∙ ap (λ (b : Bool). if b then Finished else Failed) e, h)

@@ -273,7 +273,7 @@ told-holds s n (Ok u) P m p k l = p k
 told-holds s n (Err e) P m p k l = if-there e P (not-memory e m) (p k l)
 
 -- an error of a call on a source is one of bytes
-of-bytes : (e : Error) (a b : Bool) → MayFail e a b → IsOfBytes e
+pub of-bytes : (e : Error) (a b : Bool) → MayFail e a b → IsOfBytes e
 of-bytes errors.OutOfMemory a b h = tt
 of-bytes (errors.Format t) a b h = tt
 of-bytes (errors.Unsupported t) a b h = tt

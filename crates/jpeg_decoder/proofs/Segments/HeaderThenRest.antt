@@ -300,7 +300,7 @@ pub record GoesOn (limit : Option ℕ) (beyond : Beyond) (found : Found) (bytes 
       ≡ walk limit beyond k false Elsewhere found None rest
   pub whole : walk_over limit beyond false nothing_found start ≡ walk_over limit beyond false found rest
 
-goes-on : (limit : Option ℕ) (beyond : Beyond) (found : Found) (bytes rest : List ℕ) → header_at bytes ≡ Ok (found, rest)
+pub goes-on : (limit : Option ℕ) (beyond : Beyond) (found : Found) (bytes rest : List ℕ) → header_at bytes ≡ Ok (found, rest)
     → GoesOn limit beyond found bytes rest
 unfolding header_at segments_at FollowsAt
 goes-on limit beyond found bytes rest e =

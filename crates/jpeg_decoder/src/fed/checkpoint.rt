@@ -1,12 +1,13 @@
 //! How far a decoder that is fed has read its bytes, once and for all.
-ghost use Rattle.std.specs.Prelude.{◌≡◌, ◌≤◌, ◌<◌, ◌-◌, ◌^◌, ◌++◌, ℕ, List, Option, None, [], Ok};
-ghost use Rattle.std.specs.Prelude.{IfErr, IfOk, IfSome, OnOk, length, min, true};
+ghost use Rattle.std.specs.Prelude.{◌≡◌, ◌≤◌, ◌<◌, ◌++◌, ℕ, List, Option, None, [], Ok};
+ghost use Rattle.std.specs.Prelude.{IfErr, IfOk, IfSome, OnOk, length, true};
 ghost use Rattle.jpeg_bits.specs.declared.error.Error.TheVariants.{OutOfMemory};
 ghost use Rattle.jpeg_meaning.specs.Sound.{IsSound};
 ghost use Rattle.jpeg_decoder.specs.Fed.{IsAt, IsCheckpoint};
 ghost use Rattle.jpeg_decoder.specs.Walks.{IsGoing};
 
 use crate::fed::lookahead::whole_length;
+use crate::fed::sources::{source_of, unread};
 use crate::scan::work::{Budget, Walk};
 use crate::stream::state::{ONWARD, State, Step};
 use crate::stream::turns::read_turn;
@@ -15,9 +16,6 @@ use jpeg_bits::error::{Error, Result, end_of_bytes, format_error};
 use jpeg_bits::source::Source;
 use jpeg_bits::source::slice_reader::SliceReader;
 use std::alloc::Global;
-
-/// How many bytes are read ahead at most.
-pub const READ_AHEAD: usize = 65536;
 
 /// What was found in the first bytes of a stream, and where to go on: between two segments, or
 /// after a scan and the marker that ends it.
@@ -33,24 +31,29 @@ pub struct Checkpoint {
     pub offset: usize,
 }
 
-/// Returns a source of bytes in memory, which are read ahead. The only error is `OutOfMemory`.
-pub fn source_of(alloc: Global, bytes: &[u8]) -> Result<Source<SliceReader<'_>>>
-    ensures bytes { IfOk result (λ s. s.bytes ≡ bytes.now) }
-    ensures known { IfOk result (λ s. s.known ≡ true) }
-    ensures err { IfErr result (λ e. e ≡ OutOfMemory) }
-{
-    let capacity = bytes.len().min(READ_AHEAD);
-    let mut source = Source::new(SliceReader::new(bytes));
-    source.read_ahead(alloc, capacity)?;
-    Ok(source)
-}
+impl Checkpoint {
+    ghost use Rattle.std.specs.Prelude.{◌≡◌, IfErr, OnErr, OnOk, true};
+    ghost use Rattle.jpeg_bits.specs.declared.error.Error.TheVariants.{OutOfMemory};
 
-/// Returns how many bytes of a source of bytes in memory are left.
-fn unread(source: &Source<SliceReader<'_>>) -> usize
-    ensures { source.now.known ≡ true → result ≡ min (length source.now.bytes) (2 ^ 64 - 1) }
-{
-    let (ahead, reader) = source.rest();
-    ahead.len().saturating_add(reader.left())
+    /// Sets a source to the bytes after the checkpoint, and a state to what was found before them.
+    /// The only error is `OutOfMemory`, in which case the state stays.
+    pub fn resume<'a>(
+        &self,
+        alloc: Global,
+        rest: &'a [u8],
+        source: &mut Source<SliceReader<'a>>,
+        state: &mut State,
+    ) -> Result<()>
+        ensures bytes { OnOk result (source.new.bytes ≡ rest.now) }
+        ensures known { OnOk result (source.new.known ≡ true) }
+        ensures found { OnOk result (state.new ≡ self.now.state) }
+        ensures kept { OnErr result (state.new ≡ state.old) }
+        ensures err { IfErr result (λ e. e ≡ OutOfMemory) }
+    {
+        *source = source_of(alloc, rest)?;
+        *state = self.state.copied(alloc)?;
+        Ok(())
+    }
 }
 
 /// Reads segments and scans after a step until no bytes are left, and returns the step after them.
@@ -176,7 +179,8 @@ pub fn move_on(
     };
     let rest = &bytes[checkpoint.offset..];
     let room = stop.saturating_sub(checkpoint.offset);
-    let whole = whole_length(alloc, rest, checkpoint.step.met).min(room);
+    let length = whole_length(alloc, rest, checkpoint.step.met)?;
+    let whole = length.min(room);
     if let Some(before) = pass(alloc, &mut checkpoint, &rest[..whole])? {
         *stop = checkpoint.offset.saturating_add(before);
         return Ok(None);

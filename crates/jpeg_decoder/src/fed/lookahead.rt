@@ -1,7 +1,9 @@
 //! How many bytes of a stream are whole segments and whole scans, by their lengths and markers.
-ghost use Rattle.std.specs.Prelude.{◌≤◌, length};
+ghost use Rattle.std.specs.Prelude.{◌≡◌, ◌≤◌, IfErr, IfOk, length};
+ghost use Rattle.jpeg_bits.specs.declared.error.Error.TheVariants.{OutOfMemory};
 
-use jpeg_bits::error::{Result, end_of_bytes, format_error};
+use crate::fed::sources::{source_of, unread};
+use jpeg_bits::error::{Error, Result, end_of_bytes, format_error};
 use jpeg_bits::marker::{Marker, read_marker};
 use jpeg_bits::source::Source;
 use jpeg_bits::source::reads::{read_length, skip};
@@ -44,19 +46,22 @@ fn pass_turn(
 
 /// Returns how many of the bytes after a step, with this marker if one was met, are whole segments
 /// and whole scans, each with its data and the marker after them. It reads no data: it goes by
-/// lengths and markers alone, so that a segment or a scan may have a fault all the same.
-pub fn whole_length(alloc: Global, bytes: &[u8], met: Option<Marker>) -> usize
-    ensures { result ≤ length bytes.now }
+/// lengths and markers alone, so that a segment or a scan may have a fault all the same. The only
+/// error is `OutOfMemory`.
+pub fn whole_length(alloc: Global, bytes: &[u8], met: Option<Marker>) -> Result<usize>
+    ensures within { IfOk result (λ n. n ≤ length bytes.now) }
+    ensures err { IfErr result (λ e. e ≡ OutOfMemory) }
 {
-    let mut source = Source::new(SliceReader::new(bytes));
+    let mut source = source_of(alloc, bytes)?;
     let mut whole = 0;
     let mut met = met;
     for _ in 0..=u64::MAX {
         match pass_turn(alloc, &mut source, met) {
             Ok(next) => met = next,
-            Err(_) => return whole,
+            Err(Error::OutOfMemory) => return Err(Error::OutOfMemory),
+            Err(_) => return Ok(whole),
         }
-        whole = bytes.len().saturating_sub(source.rest().1.left());
+        whole = bytes.len().saturating_sub(unread(&source));
     }
-    whole
+    Ok(whole)
 }

@@ -11,21 +11,20 @@ ghost use Rattle.jpeg_meaning.specs.EndPlanes.{AreBlocksOf, blocks_if, is_kept};
 ghost use Rattle.jpeg_meaning.specs.Found.{Found};
 ghost use Rattle.jpeg_meaning.specs.Rasters.{plane_by};
 ghost use Rattle.jpeg_meaning.specs.Shown.{blocks_held, completed, fault_in, planes_by};
-ghost use Rattle.jpeg_meaning.specs.Shown.{rows_of_found, whole_rows_rest};
-ghost use Rattle.jpeg_meaning.specs.Shown.{shown_by, shown_of, shown_rest_within, table_held};
+ghost use Rattle.jpeg_meaning.specs.Shown.{rows_of_found, shown_by, shown_of, table_held};
 ghost use Rattle.jpeg_meaning.specs.Shown.{with_plane_shown, with_samples_shown};
 ghost use Rattle.jpeg_meaning.specs.Sound.{HasDecodedFrame, IsDecodedFrame, IsSound};
-ghost use Rattle.jpeg_meaning.specs.States.{IsOfBytes, OnToldRefusal};
-ghost use Rattle.jpeg_meaning.specs.Limits.{exceeded_rest};
+ghost use Rattle.jpeg_meaning.specs.States.{IsOfBytes};
+ghost use Rattle.jpeg_bits.specs.Stream.{Stream};
 ghost use Rattle.jpeg_bits.specs.declared.beyond.Beyond.TheVariants.{Nothing};
-ghost use Rattle.jpeg_meaning.specs.Stream.{told_of};
+ghost use Rattle.jpeg_meaning.specs.Stream.{Walked, all_brought, told_of};
 ghost use Rattle.jpeg_decoder.specs.Bytes.{AreLinesOf, IsWhole, shape_of};
-ghost use Rattle.jpeg_decoder.specs.Reaching.{NamesFault, is_out_of_memory};
+ghost use Rattle.jpeg_decoder.specs.Reaching.{NamesFault, UnlessRefused, is_out_of_memory};
 ghost use Rattle.jpeg_decoder.specs.Scanning.{arrays_in};
-ghost use Rattle.jpeg_decoder.specs.Shows.{CountsRows, GivesUp, IsShown, Knows, ShowsJust};
-ghost use Rattle.jpeg_decoder.specs.Shows.{is_there, told_shown_rest};
+ghost use Rattle.jpeg_decoder.specs.Shows.{IsShown, is_there};
 ghost use Rattle.jpeg_decoder.specs.Steps.{with_decoded};
-ghost use Rattle.jpeg_decoder.specs.Walks.{IsKnownIf, known_if, steps_over};
+ghost use Rattle.jpeg_decoder.specs.Walks.{IsEndOfWalk, IsGoing, IsKnownIf, ShowsWalk, known_if};
+ghost use Rattle.jpeg_decoder.specs.Walks.{steps_over};
 
 use crate::picture::lines::Lines;
 use crate::picture::whole::{are_kept, picture, read_start};
@@ -302,6 +301,37 @@ fn is_unknown_end(ended: &Result<()>) -> bool
     }
 }
 
+/// Returns the lines of the picture of what was found before segments have ended so, how many of
+/// them are complete, and the first fault. No blocks or planes are kept.
+fn show_ended(
+    alloc: Global,
+    state: &mut State,
+    settings: Settings,
+    ended: Result<()>,
+    walk: Walk,
+) -> Result<PartialLines>
+    requires sound { UnlessRefused ended (IsSound state.old) }
+    requires fault { IfErr ended IsOfBytes }
+    ensures shows { (w : Walked) (old new : Stream) → IsEndOfWalk w old ended state.old walk new
+        → ShowsWalk settings w old result new (told_of state.new.said) walk.budget.exceeded }
+    ensures refused { IfErr result IsOfBytes }
+    ensures said { state.new.said ≡ state.old.said }
+    ensures framed { IfOk result (λ _. is_some state.new.said.frame ≡ true) }
+    ensures frames { OnOk result (HasDecodedFrame state.new) }
+    ensures lines { IfOk result (λ p. AreLinesOf
+        (option_map (shape_of settings) state.new.said.frame) p.lines) }
+    ensures size { IfOk result (λ p. IsWhole
+        (option_map (shape_of settings) state.new.said.frame) (concat p.lines)) }
+    ensures emptied { (state.new.kept ≡ []) × (state.new.planes ≡ replicate 4 None)
+        × (state.new.samples ≡ replicate 4 None) }
+{
+    let mut decoded = std::mem::replace(&mut state.decoded, Decoded::new(alloc));
+    if is_unknown_end(&ended) {
+        return Err(Error::OutOfMemory);
+    }
+    show_found(alloc, state, &mut decoded, settings, ended.err(), walk.rows)
+}
+
 /// Reads the rest of a stream up to its first fault, and returns the lines of the picture that it
 /// has brought, how many of them are complete, and its first fault. No blocks or planes are kept.
 /// `exceeded` says whether the fault is a scan of more blocks than the limit leaves.
@@ -316,15 +346,8 @@ pub fn show_rest<R: Read + Drop>(
     exceeded: &mut bool,
 ) -> Result<PartialLines>
     requires sound { IsSound state.old }
-    ensures shown { ShowsJust (shown_rest_within settings.max_blocks settings state.old)
-        (λ p. concat p.lines) (λ p. p.fault) source.old result source.new (told_of state.new.said) }
-    ensures rows { CountsRows (λ p. p.whole_rows) (whole_rows_rest settings.max_blocks state.old)
-        source.old result source.new }
-    ensures told { OnToldRefusal source.old source.new result (told_of state.new.said
-        ≡ told_shown_rest settings.max_blocks state.old source.old.bytes) }
-    ensures exceeded { Knows source.old result source.new (exceeded.new
-        ≡ exceeded_rest settings.max_blocks Nothing state.old source.old.bytes) }
-    ensures given_up { GivesUp (λ p. p.fault) source.old result source.new }
+    ensures shows { ShowsWalk settings (all_brought settings.max_blocks state.old source.old.bytes)
+        source.old result source.new (told_of state.new.said) exceeded.new }
     ensures refused { IfErr result IsOfBytes }
     ensures framed { IfOk result (λ _. is_some state.new.said.frame ≡ true) }
     ensures frames { OnOk result (HasDecodedFrame state.new) }
@@ -346,50 +369,38 @@ pub fn show_rest<R: Read + Drop>(
     };
     let ended = read_segments(alloc, source, state, false, Beyond::Nothing, &mut walk);
     *exceeded = walk.budget.exceeded;
-    let mut decoded = std::mem::replace(&mut state.decoded, Decoded::new(alloc));
-    if is_unknown_end(&ended) {
-        return Err(Error::OutOfMemory);
-    }
-    show_found(alloc, state, &mut decoded, settings, ended.err(), walk.rows)
+    show_ended(alloc, state, settings, ended, walk)
 }
 
-/// Reads a stream after a step up to its first fault, where its scans may code as many blocks as
-/// are `left`, if there is a limit, and returns the lines of the picture that it has brought, as
-/// `show_rest` does.
+/// Reads a stream after a step up to its first fault, and returns the lines of the picture that it
+/// has brought, as `show_rest` does. `walk` says how many blocks its scans may code, if there is a
+/// limit, and after the call whether the fault is a scan of more.
 pub fn show_from<R: Read + Drop>(
     alloc: Global,
     source: &mut Source<R>,
     state: &mut State,
     first: Step,
-    left: Option<u64>,
+    walk: &mut Walk,
     settings: Settings,
 ) -> Result<PartialLines>
     requires sound { IsSound state.old }
-    ensures shown { (k : Bool) → IsKnownIf k 1 source.old → ShowsJust (λ bytes. let w = steps_over
-        left Nothing state.old first bytes in shown_of settings w.found w.rest)
-        (λ p. concat p.lines) (λ p. p.fault) (known_if k source.old) result source.new
-        (told_of state.new.said) }
-    ensures rows { (k : Bool) → IsKnownIf k 1 source.old → CountsRows (λ p. p.whole_rows)
-        (λ bytes. let w = steps_over left Nothing state.old first bytes in
-        rows_of_found w.rows w.found) (known_if k source.old) result source.new }
-    ensures given_up { (k : Bool) → IsKnownIf k 1 source.old
-        → GivesUp (λ p. p.fault) (known_if k source.old) result source.new }
+    requires going { IsGoing walk.old }
+    ensures shows { (k : Bool) → IsKnownIf k 1 source.old → ShowsWalk settings
+        (steps_over walk.old.budget.left Nothing state.old first source.old.bytes)
+        (known_if k source.old) result source.new (told_of state.new.said)
+        walk.new.budget.exceeded }
+    ensures refused { IfErr result IsOfBytes }
+    ensures framed { IfOk result (λ _. is_some state.new.said.frame ≡ true) }
+    ensures frames { OnOk result (HasDecodedFrame state.new) }
+    ensures stays { is_some state.old.said.frame ≡ true → state.new.said.frame
+        ≡ state.old.said.frame }
     ensures lines { IfOk result (λ p. AreLinesOf
         (option_map (shape_of settings) state.new.said.frame) p.lines) }
     ensures size { IfOk result (λ p. IsWhole
         (option_map (shape_of settings) state.new.said.frame) (concat p.lines)) }
+    ensures emptied { (state.new.kept ≡ []) × (state.new.planes ≡ replicate 4 None)
+        × (state.new.samples ≡ replicate 4 None) }
 {
-    let mut walk = Walk {
-        budget: Budget {
-            left,
-            exceeded: false,
-        },
-        rows: None,
-    };
-    let ended = read_from(alloc, source, state, first, Beyond::Nothing, &mut walk);
-    let mut decoded = std::mem::replace(&mut state.decoded, Decoded::new(alloc));
-    if is_unknown_end(&ended) {
-        return Err(Error::OutOfMemory);
-    }
-    show_found(alloc, state, &mut decoded, settings, ended.err(), walk.rows)
+    let ended = read_from(alloc, source, state, first, Beyond::Nothing, walk);
+    show_ended(alloc, state, settings, ended, *walk)
 }

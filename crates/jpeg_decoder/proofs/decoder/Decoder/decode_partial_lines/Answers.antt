@@ -3,6 +3,7 @@ use Rattle.std.proofs.lemmas.Result.{err_from_is_err_and}
 use Rattle.std.specs.List.{concat}
 use Rattle.jpeg_decoder.specs.declared.picture.partial.PartialLines.{PartialLines}
 use Rattle.jpeg_decoder.proofs.Partial.ShownBegun.{rows-at, shows-rest, shows-unbegun}
+use Rattle.jpeg_decoder.proofs.Partial.ShownWalks.{rest-of-walk, rows-of-walk}
 use Rattle.jpeg_decoder.proofs.Pictures.DecodedLines.{begun-seen, read-holds}
 use Rattle.jpeg_decoder.proofs.Pictures.PictureSizes.{if-counted}
 use Rattle.jpeg_decoder.proofs.decoder.Decoder.decode_partial_lines.Goals as goal
@@ -29,19 +30,17 @@ pub returns-clause-shows : goal.returns-clause-shows
 returns-clause-shows g c =
     shows-rest {X = PartialLines} (λ p. concat p.lines) (λ p. p.fault) _ _ _ c.show_rest-result.result
     (begun-seen _ _ _ c.self.view_is c.in_ok-begin.ensures.reads c.in_ok-begin.ensures.still
-    c.in_ok-begin.ensures.settings) (search rules) (record {
-      shown = c.show_rest-result.ensures.shown;
-      tells = c.show_rest-result.ensures.told;
-      exceeded = c.show_rest-result.ensures.exceeded;
-      given_up = c.show_rest-result.ensures.given_up;
-    }) c.show_rest-result.ensures.emptied
+    c.in_ok-begin.ensures.settings) (search rules)
+    (rest-of-walk _ _ _ _ c.show_rest-result.result _ _ c.show_rest-result.ensures.shows)
+    c.show_rest-result.ensures.emptied
 
 pub returns-clause-rows : goal.returns-clause-rows
 returns-clause-rows g c k =
     rows-at {X = PartialLines} (λ p. p.whole_rows) c.args.self.now.stage c.args.self.now _
     c.show_rest-result.new.source c.show_rest-result.result
     (begun-seen _ _ _ c.self.view_is c.in_ok-begin.ensures.reads c.in_ok-begin.ensures.still
-    c.in_ok-begin.ensures.settings) k c.show_rest-result.ensures.rows
+    c.in_ok-begin.ensures.settings) k
+    (rows-of-walk _ _ _ _ c.show_rest-result.result _ _ c.show_rest-result.ensures.shows)
 
 pub returns-clause-counted : goal.returns-clause-counted
 returns-clause-counted g c = search (rules, if-counted {X = PartialLines} c.self.inside.settings)

@@ -1,5 +1,5 @@
-use Rattle.std.proofs.Common.{◌≡◌, ◌≤◌, ◌+◌, ◌-◌, ◌∙◌, Ok, ap, arith, drop, length, length-drop, length-take, rules, sym, take}
-use Rattle.std.proofs.Common.{ℕ, List, None, Result, Option}
+use Rattle.std.proofs.Common.{◌≡◌, ◌≤◌, ◌-◌, ◌∙◌, Ok, ap, arith, drop, length, length-drop, length-take, rules, sym, take}
+use Rattle.std.proofs.Common.{ℕ, None}
 use Rattle.std.proofs.lemmas.List.{take_all}
 use Rattle.jpeg_decoder.proofs.FedBytes.{at-moved}
 use Rattle.jpeg_decoder.proofs.fed.checkpoint.move_on.Goals as goal
@@ -15,7 +15,7 @@ returns-clause-at c =
     let left : length (drop b.offset bytes) ≡ length bytes - b.offset = length-drop b.offset bytes in
     let same : rest ≡ drop b.offset bytes = take_all (length bytes - b.offset) (drop b.offset bytes) (omega (arith, left)) in
     let long : length rest ≡ length bytes - b.offset = ap length same ∙ left in
-    let fits : whole ≤ length rest = omega (arith, c.min-whole.ensures, c.whole_length.ensures) in
+    let fits : whole ≤ length rest = omega (arith, c.min-whole.ensures, c.in_ok-length.ensures.within) in
     let size : length (take whole rest) ≡ whole = omega (arith, fits, length-take whole rest) in
     let none : Ok c.in_ok-before.field-0 ≡ Ok None = search rules in
     at-moved c.args.max_blocks bytes (take whole rest) b.offset _ h.begun h.within
