@@ -1,7 +1,7 @@
 -- Bands that are read code by code.
 use Rattle.std.proofs.Common.{◌≡◌, ◌≢◌, ℕ, zero, suc, ◌+◌, ◌-◌, ◌*◌, ◌^◌, ◌<◌, ◌≤◌, Bool, List, [], ◌∷◌, ◌++◌}
 use Rattle.std.proofs.Common.{length}
-use Rattle.std.proofs.Common.{set, map, refl, sym, ap, ◌∙◌, subst, arith, ℤ, pos, negsuc, ◌*ℤ◌, ◌≤ℤ◌, ap₂}
+use Rattle.std.proofs.Common.{set, refl, sym, ap, ◌∙◌, subst, arith, ℤ, pos, negsuc, ◌*ℤ◌, ◌≤ℤ◌, ap₂}
 use Rattle.std.proofs.Common.{append_assoc, append-nil, le_refl}
 use Rattle.std.proofs.Common.{length-append, unsigned_abs, pow_pos, pow-add}
 use Rattle.std.proofs.lemmas.Int.{ints}

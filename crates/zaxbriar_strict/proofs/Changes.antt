@@ -1,6 +1,6 @@
 -- Blocks of a frame that a scan changes, one after the other.
-use Rattle.std.proofs.Common.{◌≡◌, ℕ, ◌+◌, Bool, true, false, true≢false, List, [], ◌∷◌, ◌++◌, length, map, refl, sym, ap, ap₂}
-use Rattle.std.proofs.Common.{◌∙◌, subst, inl, inr}
+use Rattle.std.proofs.Common.{◌≡◌, Bool, true, false, List, [], ◌∷◌, ◌++◌, length, map, refl, sym, ap}
+use Rattle.std.proofs.Common.{◌∙◌, inl, inr}
 use Rattle.std.proofs.lemmas.List.{length-map, map-append}
 use Rattle.std.specs.List.{AllByRecursion}
 use Rattle.std.specs.Prelude.{zip}
@@ -10,6 +10,7 @@ use Rattle.jpeg_meaning.specs.InTurn.{AreApart, IsIn}
 use Rattle.jpeg_meaning.specs.Levels.{Is8Bit}
 use Rattle.zaxbriar_strict.specs.Changes.{AreMade, Change, IsGood, IsMadeChange, IsNext, Kept, Place, sent_by}
 use Rattle.zaxbriar_strict.specs.Runs.{AreChanged, AreGood, turns_by}
+use Rattle.zaxbriar_strict.specs.Sent.{AllInner}
 use Rattle.zaxbriar_strict.proofs.Units.{zip-append}
 
 -- ---- one after the other
@@ -19,7 +20,7 @@ unfolding AreMade
 made-none k q = refl
 
 -- what was kept before is told by its blocks
-made-from : (cs : List Change) (a b c : Kept) → ((q : Place) → b q ≡ a q) → AreMade cs b c → AreMade cs a c
+made-from : (cs : List Change) (a b c : Kept) → ((q : Place) → b.block q ≡ a.block q) → AreMade cs b c → AreMade cs a c
 unfolding AreMade
 made-from [] a b c same m = λ q. m q ∙ same q
 made-from (x ∷ cs) a b c same m = (
@@ -68,7 +69,12 @@ unfolding AreGood
 good-none p cs = tt
 
 pub changed-none : (k : Bool) (p : Pass) (a : Kept) → AreChanged k p [] a a
-changed-none k p a = record { made = λ e. made-none a; next = λ e g. tt; in_range = λ e. tt }
+changed-none k p a = record {
+  made = λ e. made-none a;
+  next = λ e g. tt;
+  inner = λ e n. (n, tt);
+  in_range = λ e. tt;
+}
 
 pub changed-then : {k : Bool} {p : Pass} {a b c : Kept} (xs ys : List Change) → AreChanged k p xs a b
     → AreChanged k p ys b c → AreChanged k p (xs ++ ys) a c
@@ -76,6 +82,10 @@ changed-then {k} {p} {a} {b} {c} xs ys f g = record {
   made = λ e. made-then xs ys a b c (f.made e) (g.made e);
   next = λ e good. all-append (IsNext p) xs ys (f.next e (good-first k p xs ys good))
       (g.next e (good-second k p xs ys good));
+  inner = λ e n.
+      let later = g.inner e n in
+      let first = f.inner e later.0 in
+      (first.0, all-append (λ (x : Change). AllInner x.new) xs ys first.1 later.1);
   in_range = λ e. all-append (λ (x : Change). Is8Bit (sent_by p x)) xs ys (f.in_range e) (g.in_range e);
 }
 
@@ -90,12 +100,12 @@ turns-append p u v xs ys e =
 -- ---- what was before and is after them, where their places are apart
 
 pub record IsChange (before after : Kept) (c : Change) : Type 0 where
-  pub was : before c.place ≡ c.old
-  pub is : after c.place ≡ c.new
+  pub was : before.block c.place ≡ c.old
+  pub is : after.block c.place ≡ c.new
 
 pub record AreChanges (cs : List Change) (before after : Kept) : Type 0 where
   pub each : AllByRecursion (IsChange before after) cs
-  pub others : (q : Place) → (IsIn q (map (λ (c : Change). c.place) cs) → ⊥) → after q ≡ before q
+  pub others : (q : Place) → (IsIn q (map (λ (c : Change). c.place) cs) → ⊥) → after.block q ≡ before.block q
 
 earlier : (c : Change) (before between after : Kept) → IsMadeChange c before between → (xs : List Change)
     → (IsIn c.place (map (λ (x : Change). x.place) xs) → ⊥) → AllByRecursion (IsChange between after) xs

@@ -6,7 +6,7 @@ use Rattle.jpeg_bits.proofs.PieceWalks.{by_bool}
 use Rattle.jpeg_segments.specs.Frame.{Factors, greatest}
 use Rattle.jpeg_segments.specs.WrittenSegments.{FrameHeader}
 use Rattle.jpeg_meaning.specs.AcceptedFrames.{HasPicture, HasSamples, IsNear, IsUpsampled}
-use Rattle.zaxbriar_strict.specs.Exact.{HasSequentialPicture}
+use Rattle.zaxbriar_strict.specs.Exact.{HasProgressivePicture, HasSequentialPicture}
 
 -- ---- what is decided
 
@@ -36,7 +36,7 @@ pub equal : (m n : ℕ) → Decision (m ≡ n)
 equal m n =
     by_bool (eqb m n) (λ t. inl (eqb-true m n t)) (λ f. inr (λ e. false≢true (sym f ∙ eq-eqb m n e)))
 
-at-most : (m n : ℕ) → Decision (m ≤ n)
+pub at-most : (m n : ℕ) → Decision (m ≤ n)
 at-most m n =
     by_bool (leb m n) (λ t. inl (leb-true m n t)) (λ f. inr (λ h. false≢true (sym f ∙ le-leb m n h)))
 
@@ -81,6 +81,17 @@ sequential number h (inl few) (inr f) = inr (λ x. f x.picture)
 pub picture-or-not : (number : ℕ) (h : FrameHeader) → Decision (HasSequentialPicture number h)
 picture-or-not number h =
     sequential number h (at-most number 1) (picture h (equal h.precision 8) (counted (length h.components))
+    (all (IsUpsampled h) (upsampled h) h.components))
+
+progressive : (number : ℕ) (h : FrameHeader) → Decision (number ≡ 2) → Decision (HasPicture h)
+    → Decision (HasProgressivePicture number h)
+progressive number h (inl two) (inl p) = inl (record { progressive = two; picture = p })
+progressive number h (inr f) p = inr (λ x. f x.progressive)
+progressive number h (inl two) (inr f) = inr (λ x. f x.picture)
+
+pub progressive-or-not : (number : ℕ) (h : FrameHeader) → Decision (HasProgressivePicture number h)
+progressive-or-not number h =
+    progressive number h (equal number 2) (picture h (equal h.precision 8) (counted (length h.components))
     (all (IsUpsampled h) (upsampled h) h.components))
 
 -- ---- samples

@@ -1,40 +1,25 @@
--- Arrays that extend what is kept of the blocks of a progressive frame, before and after a scan.
-use Rattle.std.proofs.Common.{◌≡◌, ℕ, ◌≤◌, ◌==◌, ◌&&◌, Bool, true, false, List, [], ◌∷◌, length, map, get_or, refl, sym, ap, ◌∙◌, subst}
-use Rattle.std.proofs.Common.{inl, inr, ◌⊎◌, arith, ℤ, pos, negsuc, ◌≤ℤ◌, unsigned_abs, drop}
-use Rattle.std.proofs.lemmas.Int.{ints}
+-- An array that has the blocks of a progressive frame, as far as scans have sent them, before and after a scan.
+use Rattle.std.proofs.Common.{◌≡◌, ℕ, ◌≤◌, List, [], ◌∷◌, length, map, refl, sym, ap, ◌∙◌, subst, inl, inr, ◌⊎◌, ℤ}
 use Rattle.std.specs.List.{AllByRecursion}
-use Rattle.jpeg_bits.specs.BlockView.{dc_in}
 use Rattle.jpeg_bits.specs.Passes.{Block, Pass}
 use Rattle.jpeg_meaning.specs.InTurn.{AreApart, IsIn}
-use Rattle.jpeg_meaning.specs.Levels.{Is8Bit, IsLegal, Levels, cut, sent_after}
-use Rattle.zaxbriar_strict.specs.Bands.{IsInner, block_in}
-use Rattle.zaxbriar_strict.specs.Changes.{AreMade, Change, IsGood, IsNext, IsReady, Kept, Place}
-use Rattle.zaxbriar_strict.specs.Sent.{AllInner}
-use Rattle.zaxbriar_strict.proofs.Changes.{AreChanges, IsChange, changes-are}
+use Rattle.jpeg_meaning.specs.Levels.{Is8Bit, IsLegal, Levels, cut, numbers_at, sent_after}
+use Rattle.jpeg_meaning.specs.WrittenScans.{Coefficients}
+use Rattle.zaxbriar_strict.specs.Bands.{block_in}
+use Rattle.zaxbriar_strict.specs.Changes.{AreMade, Change, IsCutAt, IsGood, IsNext, Kept, Place, sent_by}
+use Rattle.zaxbriar_strict.specs.Sent.{AllInner, IsBand}
+use Rattle.zaxbriar_strict.proofs.Changes.{IsChange, changes-are}
+use Rattle.zaxbriar_strict.proofs.CutBlocks.{IsSameBand, back-still, ready-cut, same-sent, still-cut}
 use Rattle.zaxbriar_strict.proofs.DecidedFrames.{Decision, equal}
 
--- The blocks of an array have what is kept of them, cut at the levels of their components, and what
--- is kept is in range: also of blocks that aren't a component's own.
-pub record Extends (IsOwn : Place → Type 0) (array : Place → Block) (levels : ℕ → Levels) (kept : Kept) : Type 0 where
-  pub own : (q : Place) → IsOwn q → block_in (kept q) ≡ cut (levels q.index) (array q)
-  pub in_range : (q : Place) → Is8Bit (block_in (kept q))
+abbrev pub block_at : Coefficients → Place → Block
+block_at array q = array q.index q.row q.column
 
--- ---- blocks in range
-
-inner-small : (z : ℤ) → unsigned_abs z ≤ 1023 → IsInner z
-inner-small (pos n) h = record { low = omega (arith, ints); high = omega (arith, ints, h) }
-inner-small (negsuc n) h = record { low = omega (arith, ints, h); high = omega (arith, ints) }
-
-inner-all : (zs : List ℤ) → AllByRecursion (λ (z : ℤ). unsigned_abs z ≤ 1023) zs → AllInner zs
-inner-all [] all = tt
-inner-all (z ∷ zs) all = (inner-small z all.0, inner-all zs all.1)
-
-pub inner-block : (zs : List ℤ) → Is8Bit (block_in zs) → AllInner zs
-inner-block [] b = tt
-inner-block (z ∷ zs) b =
-    let low : negsuc 1023 ≤ℤ z = b.dc_low in
-    let high : z ≤ℤ pos 1023 = b.dc_high in
-    (record { low = omega (arith, ints, low); high = omega (arith, ints, high) }, inner-all zs b.acs)
+-- What is kept has the bits that were sent of the blocks of an array, and no others.
+pub record Extends (array : Coefficients) (levels : ℕ → Levels) (kept : Kept) : Type 0 where
+  pub own : (q : Place) → block_in (kept.block q) ≡ cut (levels q.index) (block_at array q)
+  pub in_range : (q : Place) → Is8Bit (block_in (kept.block q))
+  pub full : (index row column : ℕ) → Is8Bit (array index row column)
 
 -- ---- places that are changed
 
@@ -74,16 +59,17 @@ all-both P Q (c ∷ cs) a b = ((a.0, b.0), all-both P Q cs a.1 b.1)
 
 -- ---- a scan
 
--- A scan in this pass: the components that it has are told by their indices, and their levels.
-pub record IsPassed (p : Pass) (IsOwn : Place → Type 0) (array : Place → Block) (cs : List Change)
-    (before after : ℕ → Levels) : Type 0 where
-  pub low : p.al ≤ 7
-  pub full : (q : Place) → length (array q).acs ≡ 63
-  pub sized : (k : ℕ) → length (before k).acs ≡ 63
-  pub changed : (c : Change) → IsIn c.place (map (λ (x : Change). x.place) cs)
-      → IsLegal p (before c.place.index) × (after c.place.index ≡ sent_after p (before c.place.index))
-  pub others : (q : Place) → IsOwn q → (IsIn q (map (λ (x : Change). x.place) cs) → ⊥)
-      → after q.index ≡ before q.index
+-- A scan in this pass sends a component whose levels allow it, or none of its blocks.
+pub record Passes (p : Pass) (before after : Levels) : Type 0 where
+  pub legal : IsLegal p before
+  pub next : after ≡ sent_after p before
+
+pub record Stays (k : ℕ) (cs : List Change) (before after : Levels) : Type 0 where
+  pub same : after ≡ before
+  pub other : (q : Place) → IsIn q (map (λ (c : Change). c.place) cs) → q.index ≡ k → ⊥
+
+abbrev pub Steps : Pass → List Change → (ℕ → Levels) → (ℕ → Levels) → Type 0
+Steps p cs before after = (k : ℕ) → Passes p (before k) (after k) ⊎ Stays k cs (before k) (after k)
 
 all-in : (cs : List Change) → AllByRecursion (λ (c : Change). IsIn c.place (map (λ (x : Change). x.place) cs)) cs
 all-in [] = tt
@@ -94,58 +80,117 @@ all-in (c ∷ cs) = (inl refl, more cs (all-in cs))
     more [] all = tt
     more (x ∷ xs) all = (inr all.0, more xs all.1)
 
-module _ (p : Pass) (IsOwn : Place → Type 0) (array : Place → Block) (cs : List Change) (before after : ℕ → Levels)
-    (from to : Kept) (passed : IsPassed p IsOwn array cs before after) (made : AreMade cs from to)
-    (apart : AreApart (map (λ (c : Change). c.place) cs)) (e : Extends IsOwn array after to) where
-  -- the changes are those of blocks that may be sent
-  pub changes-good : ((q : Place) → IsIn q (map (λ (c : Change). c.place) cs) → IsReady p (from q))
-      → AllByRecursion (IsGood p) cs
-  changes-good ready = go cs (changes-are cs from to made apart).each (all-in cs)
+module _ (p : Pass) (cs : List Change) (before after : ℕ → Levels) (from to : Kept) (banded : IsBand p)
+    (made : AreMade cs from to) (apart : AreApart (map (λ (c : Change). c.place) cs))
+    (sized : (k : ℕ) → length (before k).acs ≡ 63) (steps : Steps p cs before after)
+    (cuts : (q : Place) → IsCutAt (before q.index) (from.block q)) where
+  -- a change is that of a component that is sent
+  passes-at : (c : Change) → IsIn c.place (map (λ (x : Change). x.place) cs)
+      → Passes p (before c.place.index) (after c.place.index)
+  passes-at c h = elim (steps c.place.index) [ inl s ↦ s | inr s ↦ absurd (s.other c.place h refl) ]
+
+  -- The changes are those of blocks that may be sent.
+  pub changes-good : AllByRecursion (λ c. AllInner c.new) cs → AllByRecursion (IsGood p) cs
+  changes-good inner = go cs (changes-are cs from to made apart).each (all-in cs) inner
     where
       go : (xs : List Change) → AllByRecursion (IsChange from to) xs
           → AllByRecursion (λ (x : Change). IsIn x.place (map (λ (y : Change). y.place) cs)) xs
-          → AllByRecursion (IsGood p) xs
-      go [] each within = tt
-      go (x ∷ xs) each within = (
+          → AllByRecursion (λ (x : Change). AllInner x.new) xs → AllByRecursion (IsGood p) xs
+      go [] each within inner = tt
+      go (x ∷ xs) each within inner = (
         record {
-          ready = subst (λ (l : List ℤ). IsReady p l) each.0.was (ready x.place within.0);
-          inner = inner-block x.new (subst (λ (l : List ℤ). Is8Bit (block_in l)) each.0.is (e.in_range x.place));
+          ready = ready-cut p (before x.place.index) x.old banded (sized x.place.index)
+              (passes-at x within.0).legal
+              (subst (λ (l : List ℤ). IsCutAt (before x.place.index) l) each.0.was (cuts x.place));
+          inner = inner.0;
         },
-        go xs each.1 within.1,
+        go xs each.1 within.1 inner.1,
       )
 
-  -- An array that extends what is kept after the scan extends what was kept before it.
-  pub extends-before : AllByRecursion (IsNext p) cs → Extends IsOwn array before from
-  extends-before next =
-      let are = changes-are cs from to made apart in
-      let all = all-both (λ c. IsChange from to c × IsNext p c)
-      (λ c. IsIn c.place (map (λ (x : Change). x.place) cs)) cs
-      (all-both (IsChange from to) (IsNext p) cs are.each next) (all-in cs) in
-      record {
-        own = λ q own. elim (change-at _ q cs all) [
+  module _ (next : AllByRecursion (IsNext p) cs) where
+    known : AllByRecursion (λ c. (IsChange from to c × IsNext p c)
+        × IsIn c.place (map (λ (x : Change). x.place) cs)) cs
+    known = all-both (λ c. IsChange from to c × IsNext p c)
+        (λ c. IsIn c.place (map (λ (x : Change). x.place) cs)) cs
+        (all-both (IsChange from to) (IsNext p) cs (changes-are cs from to made apart).each next) (all-in cs)
+
+    unchanged : (q : Place) → (IsIn q (map (λ (c : Change). c.place) cs) → ⊥) → to.block q ≡ from.block q
+    unchanged q n = (changes-are cs from to made apart).others q n
+
+    -- What is kept after the scan has the bits that were sent, and no others.
+    pub cuts-after : (q : Place) → IsCutAt (after q.index) (to.block q)
+    cuts-after q = elim (change-at _ q cs known) [
+      | inl a ↦
+          let c = a.change in
+          let h = a.holds in
+          let s = passes-at c h.1 in
+          let i = c.place.index in
+          subst (λ (r : Place). IsCutAt (after r.index) (to.block r)) a.here
+          (subst (λ (l : Levels). IsCutAt l (to.block c.place)) (sym s.next)
+          (subst (λ (z : List ℤ). IsCutAt (sent_after p (before i)) z) (sym h.0.0.is)
+          (h.0.1.onward (before i) (sized i) s.legal
+          (subst (λ (z : List ℤ). IsCutAt (before i) z) h.0.0.was (cuts c.place)))))
+      | inr n ↦
+          subst (λ (z : List ℤ). IsCutAt (after q.index) z) (sym (unchanged q n)) (elim (steps q.index) [
+            | inl s ↦ subst (λ (l : Levels). IsCutAt l (from.block q)) (sym s.next)
+                (still-cut p (before q.index) (from.block q) s.legal (cuts q))
+            | inr s ↦ subst (λ (l : Levels). IsCutAt l (from.block q)) (sym s.same) (cuts q)
+          ])
+    ]
+
+    module _ (low : p.al ≤ 7) (array : Coefficients) (e : Extends array after to) where
+      -- An array that has what is kept after the scan has what was kept before it.
+      pub extends-before : Extends array before from
+      extends-before = record {
+        own = λ q. elim (change-at _ q cs known) [
           | inl a ↦
               let c = a.change in
               let h = a.holds in
-              let l = passed.changed c h.1 in
-              let now : block_in c.new ≡ cut (sent_after p (before c.place.index)) (array c.place) =
-              ap (λ (x : List ℤ). block_in x) (sym h.0.0.is)
-              ∙ e.own c.place (subst IsOwn (sym a.here) own)
-              ∙ ap (λ (x : Levels). cut x (array c.place)) l.1 in
-              let was = h.0.1.back (before c.place.index) (array c.place) (passed.full c.place)
-              (passed.sized c.place.index) l.0 now in
-              subst (λ (r : Place). block_in (from r) ≡ cut (before r.index) (array r)) a.here
+              let s = passes-at c h.1 in
+              let u = block_at array c.place in
+              let now : block_in c.new ≡ cut (sent_after p (before c.place.index)) u =
+              ap (λ (x : List ℤ). block_in x) (sym h.0.0.is) ∙ e.own c.place
+              ∙ ap (λ (l : Levels). cut l u) s.next in
+              let full = e.full c.place.index c.place.row c.place.column in
+              let was = h.0.1.back (before c.place.index) u full.count (sized c.place.index) s.legal now in
+              subst (λ (r : Place). block_in (from.block r) ≡ cut (before r.index) (block_at array r)) a.here
               (ap (λ (x : List ℤ). block_in x) h.0.0.was ∙ was)
           | inr n ↦
-              ap (λ (x : List ℤ). block_in x) (sym (are.others q n)) ∙ e.own q own
-              ∙ ap (λ (x : Levels). cut x (array q)) (passed.others q own n)
+              let now : block_in (from.block q) ≡ cut (after q.index) (block_at array q) =
+              ap (λ (x : List ℤ). block_in x) (sym (unchanged q n)) ∙ e.own q in
+              elim (steps q.index) [
+                | inl s ↦ back-still p (before q.index) (from.block q) (block_at array q) s.legal (cuts q)
+                    (now ∙ ap (λ (l : Levels). cut l (block_at array q)) s.next)
+                | inr s ↦ now ∙ ap (λ (l : Levels). cut l (block_at array q)) s.same
+              ]
         ];
-        in_range = λ q. elim (change-at _ q cs all) [
+        in_range = λ q. elim (change-at _ q cs known) [
           | inl a ↦
               let h = a.holds in
-              subst (λ (r : Place). Is8Bit (block_in (from r))) a.here
+              subst (λ (r : Place). Is8Bit (block_in (from.block r))) a.here
               (subst (λ (l : List ℤ). Is8Bit (block_in l)) (sym h.0.0.was)
-              (h.0.1.in_range passed.low
+              (h.0.1.in_range low
               (subst (λ (l : List ℤ). Is8Bit (block_in l)) h.0.0.is (e.in_range a.change.place))))
-          | inr n ↦ subst (λ (l : List ℤ). Is8Bit (block_in l)) (are.others q n) (e.in_range q)
+          | inr n ↦ subst (λ (l : List ℤ). Is8Bit (block_in l)) (unchanged q n) (e.in_range q)
         ];
+        full = e.full;
       }
+
+      -- What the scan sends of a block is what it sends of the array's.
+      pub sends-array : AllByRecursion (λ c. IsSameBand p (sent_by p c) (numbers_at p.al (block_at array c.place))) cs
+      sends-array = go cs known
+        where
+          go : (xs : List Change)
+              → AllByRecursion (λ c. (IsChange from to c × IsNext p c)
+              × IsIn c.place (map (λ (x : Change). x.place) cs)) xs
+              → AllByRecursion (λ c. IsSameBand p (sent_by p c) (numbers_at p.al (block_at array c.place))) xs
+          go [] all = tt
+          go (c ∷ xs) all =
+              let s = passes-at c all.0.1 in
+              let u = block_at array c.place in
+              let full = e.full c.place.index c.place.row c.place.column in (
+                same-sent p (before c.place.index) (block_in c.new) u banded (sized c.place.index) full.count
+                    (ap (λ (x : List ℤ). block_in x) (sym all.0.0.0.is) ∙ e.own c.place
+                    ∙ ap (λ (l : Levels). cut l u) s.next),
+                go xs all.1,
+              )

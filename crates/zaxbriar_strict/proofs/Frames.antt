@@ -9,7 +9,7 @@ use Rattle.jpeg_segments.specs.Frame.{is_precision, is_taken}
 use Rattle.jpeg_segments.specs.WrittenSegments.{AreComponents, IsComponent, factors_bytes}
 use Rattle.jpeg_segments.specs.WrittenSegments.{frame_payload, u16_bytes}
 use Rattle.jpeg_segments.proofs.FrameLemmas.{list_any_map}
-use Rattle.zaxbriar_strict.specs.Heads.{ReadsFrame, factors_of, number_of}
+use Rattle.zaxbriar_strict.specs.Heads.{IsUnread, ReadsFrame, factors_of, number_of}
 use Rattle.zaxbriar_strict.specs.declared.frame.Component.{Component}
 use Rattle.zaxbriar_strict.specs.declared.frame.Frame.{Frame}
 use Rattle.zaxbriar_strict.specs.declared.frame.Process.{Process}
@@ -21,7 +21,7 @@ use Rattle.zaxbriar_strict.specs.declared.frame.Process.TheVariants.{Baseline, E
 pub record TakesComponents (number : ℕ) (cs : List Component) (old new : List ℕ) : Type 0 where
   pub parts : old ≡ flat_map factors_bytes (map factors_of cs) ++ new
   pub legal : AreComponents number [] (map factors_of cs)
-  pub unsent : AllByRecursion (λ c. c.has_scan ≡ false) cs
+  pub unsent : AllByRecursion IsUnread cs
 
 pub none-taken : (number : ℕ) (cs : List Component) (bytes : List ℕ) → cs ≡ [] → TakesComponents number cs bytes bytes
 unfolding AreComponents
@@ -29,8 +29,8 @@ none-taken number cs bytes e =
     subst (λ (l : List Component). TakesComponents number l bytes bytes) (sym e)
     (record { parts = refl; legal = tt; unsent = tt })
 
-unsent-push : (cs : List Component) (c : Component) → AllByRecursion (λ x. x.has_scan ≡ false) cs
-    → c.has_scan ≡ false → AllByRecursion (λ x. x.has_scan ≡ false) (cs ++ c ∷ [])
+unsent-push : (cs : List Component) (c : Component) → AllByRecursion IsUnread cs
+    → IsUnread c → AllByRecursion IsUnread (cs ++ c ∷ [])
 unsent-push [] c all h = (h, tt)
 unsent-push (x ∷ xs) c all h = (all.0, unsent-push xs c all.1 h)
 
@@ -48,7 +48,7 @@ components-push number front (x ∷ xs) c all h = (
 pub one-taken : {old middle new : List ℕ} (number : ℕ) (cs after : List Component) (c : Component)
     → after ≡ cs ++ c ∷ [] → TakesComponents number cs old middle → middle ≡ factors_bytes (factors_of c) ++ new
     → list_any (λ x. x.identifier == c.identifier) cs ≡ false → is_factor c.across ≡ true → is_factor c.down ≡ true
-    → is_destination (is_lossless_number number) c.table ≡ true → c.has_scan ≡ false
+    → is_destination (is_lossless_number number) c.table ≡ true → IsUnread c
     → TakesComponents number after old new
 one-taken {old} {middle} {new} number cs after c pushed t e fresh across down placed unsent =
     let fs = map factors_of cs in
@@ -64,7 +64,7 @@ one-taken {old} {middle} {new} number cs after c pushed t e fresh across down pl
       legal = subst (λ (l : List Factors). AreComponents number [] l) (sym more)
           (components-push number [] fs (factors_of c) t.legal
           (record { is_new = other; across = across; down = down; placed = placed }));
-      unsent = subst (λ (l : List Component). AllByRecursion (λ x. x.has_scan ≡ false) l) (sym pushed)
+      unsent = subst (λ (l : List Component). AllByRecursion IsUnread l) (sym pushed)
           (unsent-push cs c t.unsent unsent);
     }
 
@@ -100,7 +100,7 @@ pub reads-frame : (code precision height width count : ℕ) (bytes rest : List �
     → 0 < height → height ≤ 65535 → 0 < width → width ≤ 65535
     → rest ≡ flat_map factors_bytes (map factors_of f.components.items)
     → AreComponents (number_of f.process) [] (map factors_of f.components.items)
-    → AllByRecursion (λ c. c.has_scan ≡ false) f.components.items
+    → AllByRecursion IsUnread f.components.items
     → f.most_across ≡ greatest (λ c. c.horizontal) (map factors_of f.components.items)
     → f.most_down ≡ greatest (λ c. c.vertical) (map factors_of f.components.items)
     → ReadsFrame code bytes f

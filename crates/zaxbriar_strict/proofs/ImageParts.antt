@@ -2,7 +2,7 @@
 -- coefficients of the components that have scans, whatever those of the others are.
 use Rattle.std.proofs.Common.{◌≡◌, ℕ, ◌<◌, ◌≤◌, ◌⊎◌, inl, inr, Bool, true, false, List, [], ◌∷◌, ◌++◌, length}
 use Rattle.std.proofs.Common.{Option, Some, get_or, map, refl, sym, ap, ◌∙◌, subst, arith, append_assoc}
-use Rattle.std.specs.List.{AllByRecursion, range_with_len}
+use Rattle.std.specs.List.{AllByRecursion}
 use Rattle.std.proofs.lemmas.Bool.{false≢true}
 use Rattle.std.proofs.lemmas.Option.{slice_get_within}
 use Rattle.jpeg_bits.proofs.PieceWalks.{by_bool}
@@ -15,12 +15,13 @@ use Rattle.jpeg_meaning.specs.Found.{Said, nothing_said}
 use Rattle.jpeg_meaning.specs.Levels.{Is8Bit, Levels, nothing_sent}
 use Rattle.jpeg_meaning.specs.SaidSegments.{Stands, said_after}
 use Rattle.jpeg_meaning.specs.ScanSegments.{Coding, pass_of}
+use Rattle.jpeg_meaning.specs.WholeImages.{AllComplete}
 use Rattle.jpeg_meaning.specs.WrittenImages.{ClosesImage, MayStandInImage, WritesImageScan, WritesPart}
 use Rattle.jpeg_meaning.specs.WrittenScans.{Coefficients, HasTable, IsComplete, WritesScan, levels_after}
 use Rattle.jpeg_meaning.specs.WrittenStreams.Writes.{end, scan, segment}
 use Rattle.jpeg_meaning.proofs.Encoded.EncodedParts.{in-range}
 use Rattle.jpeg_meaning.proofs.Order.Apart.{all-from, at-got}
-use Rattle.zaxbriar_strict.specs.Exact.{HasLaterTables, IsUpTo, IsWritten, WritesSegments}
+use Rattle.zaxbriar_strict.specs.Exact.{HasLaterTables, IsUpTo, IsWhollyWritten, WritesSegments}
 use Rattle.zaxbriar_strict.specs.Exact.WritesSegments.{more, none}
 use Rattle.zaxbriar_strict.specs.Changes.{kept_in}
 use Rattle.zaxbriar_strict.specs.Heads.{IsMade, IsSequential, ReadsHeader, has_scans, header_of, members_of}
@@ -49,7 +50,7 @@ Agrees sent array other =
     (index : ℕ) → get_or sent index true ≡ true → (row column : ℕ) → other index row column ≡ array index row column
 
 -- What is written up to some bytes goes on with what they are.
-onward : (array : Coefficients) (ends : Said → (ℕ → Levels) → List ℕ → Type 0) (at : List ℕ)
+pub onward : (array : Coefficients) (ends : Said → (ℕ → Levels) → List ℕ → Type 0) (at : List ℕ)
     (start now final : Said) (sent levels last : ℕ → Levels) (bytes : List ℕ)
     → WritesPart array (IsUpTo at) start sent bytes now levels
     → WritesPart array ends now levels at final last → WritesPart array ends start sent bytes final last
@@ -65,7 +66,7 @@ onward array ends at start now final sent levels last bytes
     (onward array ends at (record start { scanned = true }) now final next levels last others x w)
 
 -- segments alone
-segments-part : (array : Coefficients) (after : List ℕ) {said : Said} {at : List ℕ}
+pub segments-part : (array : Coefficients) (after : List ℕ) {said : Said} {at : List ℕ}
     → WritesSegments nothing_said after said at
     → WritesPart array (IsUpTo at) nothing_said (λ k. nothing_sent) after said (λ k. nothing_sent)
 segments-part array after none = end nothing_said (λ k. nothing_sent) after refl
@@ -77,7 +78,7 @@ segments-part array after (more said fill s rest front stands may) =
     (end (said_after said s) (λ k. nothing_sent) rest refl))
 
 -- they stand before these bytes
-writes-front : (array : Coefficients) (at : List ℕ) (start now : Said) (sent levels : ℕ → Levels) (bytes : List ℕ)
+pub writes-front : (array : Coefficients) (at : List ℕ) (start now : Said) (sent levels : ℕ → Levels) (bytes : List ℕ)
     → WritesPart array (IsUpTo at) start sent bytes now levels → EndsWith bytes at
 writes-front array at start now sent levels bytes (end said' sent' bytes' e) = record { front = []; parts = e }
 writes-front array at start now sent levels bytes (segment said' now' sent' levels' fill s others stands may x) =
@@ -236,7 +237,7 @@ module _ (after at start rest payload : List ℕ) (fill : ℕ) (t : Tables) (old
       let legal : IsScan frame h = head.legal (sent-once old sequential) in
       let unsent = head.unsent (sent-once old sequential) in
       let final : Said = record said { scanned = true } in
-      let members = has-members payload s old new (sent-once old sequential) sized head in
+      let members = has-members payload s old new sized head in
       let r : SequentialData t frame ms start rest =
       subst (λ (f : WrittenFrame). SequentialData t f ms start rest) (same-written head.same)
       (sequential-data (is_progressive_process new.process) t (written_frame new) ms
@@ -270,10 +271,10 @@ module _ (after at start rest payload : List ℕ) (fill : ℕ) (t : Tables) (old
             ∙ joined-before sent p.array own index row column e in
             let w : WritesScan frame t.interval whole_pass codings other r.groups.data_bytes =
             scan-written frame codings r.blocks other t.interval r.groups.data_bytes (coded-fit whole_pass t old ms codings made coded)
-            (coded-rising t frame factors 0 ms codings coded legal.choices)
-            (λ slot k here. coded-at t frame slot ms codings k coded here)
+            (coded-rising whole_pass t frame factors 0 ms codings coded legal.choices)
+            (λ slot k here. coded-at whole_pass t frame slot ms codings k coded here)
             (λ slot k here row column.
-            let m = coded-member t frame slot ms codings k coded here in
+            let m = coded-member whole_pass t frame slot ms codings k coded here in
             subst (λ (i : ℕ). other i row column ≡ own i row column) m.2
             (agrees m.0.component (sent-member ms sent slot m.0 m.1) row column
             ∙ joined-own sent p.array own m.0.component row column (unsent-member ms sent slot m.0 unsent m.1)))
@@ -292,45 +293,57 @@ module _ (after at start rest payload : List ℕ) (fill : ℕ) (t : Tables) (old
             (sym (parts ∙ ap (λ (l : List ℕ). marker fill 218 (with_length (scan_payload h) ++ l)) r.groups.parts))
             (scan said final p.levels next next frame fill h r.groups.data_bytes rest framed legal sends
             (end final next rest refl)));
-        tabled = tabled t frame said steps ms codings sent coded p.tabled;
+        tabled = tabled whole_pass t frame said steps ms codings sent coded p.tabled;
         unscanned = λ e. absurd (false≢true (sym e));
       }
 
 -- ---- its end
 
+-- EOI, after all that is written of an array, where components have tables and all bits were sent.
+pub image-closed : (array : Coefficients) (after at : List ℕ) (said : Said) (frame : WrittenFrame)
+    (levels : ℕ → Levels) (fill : ℕ) → ((index row column : ℕ) → Is8Bit (array index row column))
+    → WritesPart array (IsUpTo at) nothing_said (λ k. nothing_sent) after said levels → said.scanned ≡ true
+    → AllByRecursion (HasTable said) frame.components → AllComplete frame levels → said.frame ≡ Some frame
+    → at ≡ marker fill 217 [] → IsWhollyWritten (255 ∷ 216 ∷ after)
+image-closed array after at said frame levels fill full part scanned tables complete framed closed = record {
+  image = record {
+    array = array;
+    final = said;
+    last = levels;
+    written = record {
+      after = after;
+      starts = refl;
+      written = onward array ClosesImage at nothing_said said said (λ k. nothing_sent) levels levels after part
+          (end said levels at (record {
+            frame = frame;
+            fill = fill;
+            is_said = framed;
+            ended = (scanned, tables, λ e. complete);
+            closed = closed;
+          }));
+    };
+    in_range = full;
+  };
+  frame = frame;
+  framed = framed;
+  complete = complete;
+}
+
 -- EOI, where all components have scans.
 pub part-closed : (after at : List ℕ) (said : Said) (frame : WrittenFrame) (sent : List Bool) (fill : ℕ)
     → ImagePart after at said frame sent → length sent ≡ length frame.components → 1 ≤ length sent
     → ((i : ℕ) → get_or sent i true ≡ true) → said.frame ≡ Some frame → at ≡ marker fill 217 []
-    → IsWritten (255 ∷ 216 ∷ after)
+    → IsWhollyWritten (255 ∷ 216 ∷ after)
 part-closed after at said frame sent fill p sized some all framed closed =
-    let n = length frame.components in
     let scanned : said.scanned ≡ true =
     by_bool said.scanned (λ t. t) (λ f. absurd (false≢true (sym (p.unscanned f 0 some) ∙ all 0))) in
-    let complete : AllByRecursion (λ k. IsComplete (p.levels k)) (range_with_len 0 n) =
-    in-range (λ k. IsComplete (p.levels k)) 0 n
+    let complete : AllComplete frame p.levels =
+    in-range (λ k. IsComplete (p.levels k)) 0 (length frame.components)
     (λ k least below.
     subst (λ (l : Levels). IsComplete l)
     (sym (p.leveled k (omega (arith, below, sized)) ∙ ap level_of (all k))) whole-complete) in
     let tables : AllByRecursion (HasTable said) frame.components =
     all-from (HasTable said) frame.components
     (λ j c here. p.tabled j c (at-got j frame.components c here) (all j)) in
-    record {
-      array = p.array;
-      final = said;
-      last = p.levels;
-      written = record {
-        after = after;
-        starts = refl;
-        written = onward p.array ClosesImage at nothing_said said said (λ k. nothing_sent) p.levels p.levels after
-            (own-part after at said frame sent p)
-            (end said p.levels at (record {
-              frame = frame;
-              fill = fill;
-              is_said = framed;
-              ended = (scanned, tables, λ e. complete);
-              closed = closed;
-            }));
-      };
-      in_range = p.in_range;
-    }
+    image-closed p.array after at said frame p.levels fill p.in_range (own-part after at said frame sent p) scanned
+    tables complete framed closed

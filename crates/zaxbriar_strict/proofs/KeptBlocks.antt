@@ -1,10 +1,11 @@
 -- Blocks that are kept of a frame, and one of them that is changed.
-use Rattle.std.proofs.Common.{◌≡◌, ◌≢◌, ℕ, zero, suc, ◌+◌, ◌<◌, List, [], ◌∷◌, ◌++◌, length, map, get_or, set, replicate, refl, sym, ap, ap₂}
-use Rattle.std.proofs.Common.{◌∙◌, subst, arith, inl, inr, ℤ, Some, slice_get}
+use Rattle.std.proofs.Common.{◌≡◌, ◌≢◌, ℕ, zero, suc, ◌<◌, List, [], ◌∷◌, ◌++◌, length, map, get_or, set, replicate, refl, sym, ap, ap₂}
+use Rattle.std.proofs.Common.{◌∙◌, subst, arith, inl, inr, ℤ, Some, slice_get, Bool, false, ◌||◌}
+use Rattle.std.proofs.lemmas.Bool.{or_parts}
 use Rattle.std.proofs.lemmas.List.{get_or-set_other, get_or-set_same, length-map, map-set}
 use Rattle.std.proofs.lemmas.Option.{slice_get_within}
 use Rattle.jpeg_meaning.specs.WrittenData.{no_numbers}
-use Rattle.zaxbriar_strict.specs.Changes.{Change, IsMadeChange, Place, block_of, kept_in, rows_of}
+use Rattle.zaxbriar_strict.specs.Changes.{IsMadeChange, block_of, kept_in, rows_of}
 use Rattle.zaxbriar_strict.specs.declared.frame.Component.{Component}
 use Rattle.zaxbriar_strict.proofs.DecidedFrames.{equal}
 
@@ -60,6 +61,26 @@ pub found-in : {A B : Type 0} (f : A → B) (xs : List A) (i : ℕ) (x : A) (d :
 found-in f [] i x d lt e = absurd (omega (arith, lt))
 found-in f (y ∷ ys) zero x d lt e = ap f (sym e)
 found-in f (y ∷ ys) (suc i) x d lt e = found-in f ys i x d (omega (arith, lt)) e
+
+-- A component that is wide if it was before.
+pub wide-before : (cs : List Component) (index : ℕ) (c next : Component) → slice_get cs index ≡ Some c
+    → (next.is_wide ≡ false → c.is_wide ≡ false) → (kept_in (set cs index next)).is_wide ≡ false
+    → (kept_in cs).is_wide ≡ false
+wide-before [] index c next e h n = n
+wide-before (x ∷ xs) zero c next e h n =
+    let same : x ≡ c = cc in
+    let p = or_parts next.is_wide (kept_in xs).is_wide n in
+    ap₂ (λ (a b : Bool). a || b) (ap (λ (y : Component). y.is_wide) same ∙ h p.0) p.1
+wide-before (x ∷ xs) (suc index) c next e h n =
+    let p = or_parts x.is_wide (kept_in (set xs index next)).is_wide n in
+    ap₂ (λ (a b : Bool). a || b) p.0 (wide-before xs index c next e h p.1)
+
+pub wide-itself : (cs : List Component) (index : ℕ) (next : Component) → index < length cs
+    → (kept_in (set cs index next)).is_wide ≡ false → next.is_wide ≡ false
+wide-itself [] index next lt n = absurd (omega (arith, lt))
+wide-itself (x ∷ xs) zero next lt n = (or_parts next.is_wide (kept_in xs).is_wide n).0
+wide-itself (x ∷ xs) (suc index) next lt n =
+    wide-itself xs index next (omega (arith, lt)) (or_parts x.is_wide (kept_in (set xs index next)).is_wide n).1
 
 -- The block at a place of a frame is changed, where rows were made for it.
 pub block-changed : (cs : List Component) (index row column : ℕ) (c next : Component) (rows : Rows) (new : List ℤ)

@@ -4,7 +4,7 @@ use Rattle.std.proofs.Common.{is_some, Option, None, Some, refl, sym, ap, ap₂,
 use Rattle.std.proofs.lemmas.List.{get_or-set_other}
 use Rattle.std.proofs.lemmas.Option.{same_Some}
 use Rattle.std.specs.List.{AllByRecursion}
-use Rattle.std.specs.Prelude.{if◌then◌else◌, slice_get}
+use Rattle.std.specs.Prelude.{◌==◌, if◌then◌else◌, nat_lt, slice_get}
 use Rattle.jpeg_bits.specs.Codes.{Table}
 use Rattle.jpeg_bits.specs.DefaultTables.{filled, names, with_defaults}
 use Rattle.jpeg_bits.specs.DefaultTables.{chrominance_ac, chrominance_dc, luminance_ac, luminance_dc}
@@ -16,7 +16,9 @@ use Rattle.jpeg_segments.specs.ScanHeaders.{AreChoices, ScanHeader, scan_written
 use Rattle.jpeg_meaning.specs.Found.{Said}
 use Rattle.jpeg_meaning.specs.Levels.{IsLegal, Levels, nothing_sent}
 use Rattle.jpeg_meaning.specs.ScanSegments.{Coding, pass_of, tables_of}
-use Rattle.jpeg_meaning.specs.WrittenScans.{AreInForce, HasTable, IsComplete, IsLegalScan, levels_after}
+use Rattle.jpeg_meaning.specs.WrittenScans.{AreInForce, HasCodings, HasTable, IsComplete, IsLegalScan, IsTableAt, levels_after}
+use Rattle.jpeg_bits.specs.declared.huffman.codes.HuffmanTableClass.{HuffmanTableClass}
+use Rattle.jpeg_bits.specs.declared.huffman.codes.HuffmanTableClass.TheVariants.{AC, DC}
 use Rattle.jpeg_meaning.proofs.Order.Apart.{At}
 use Rattle.zaxbriar_strict.specs.Heads.{AreUnsent, choice_of, sent_with}
 use Rattle.zaxbriar_strict.specs.Installed.{codes_of, steps_of}
@@ -45,30 +47,35 @@ kept-in first second named (a ∷ b ∷ more) zero t e = ap (λ (o : Option Tabl
 kept-in first second named (a ∷ b ∷ more) (suc zero) t e = ap (λ (o : Option Table). filled second (names named 1) o) e
 kept-in first second named (a ∷ b ∷ more) (suc (suc i)) t e = e
 
-record AreKept (now : CodeTables) (d a : ℕ) (dc ac : Table) : Type 0 where
-  dc_kept : get_or now.dc d None ≡ Some dc
-  ac_kept : get_or now.ac a None ≡ Some ac
+-- tables that were there are there now
+record AreKept (old now : CodeTables) : Type 0 where
+  dc_kept : (i : ℕ) (t : Table) → get_or old.dc i None ≡ Some t → get_or now.dc i None ≡ Some t
+  ac_kept : (i : ℕ) (t : Table) → get_or old.ac i None ≡ Some t → get_or now.ac i None ≡ Some t
 
-kept-by : (avi1 : Bool) (dcs acs : List ℕ) (now : CodeTables) (d a : ℕ) (dc ac : Table)
-    → AreKept now d a dc ac → AreKept (if avi1 then record {
-      dc = with_defaults luminance_dc chrominance_dc dcs now.dc;
-      ac = with_defaults luminance_ac chrominance_ac acs now.ac;
-    } else now) d a dc ac
-kept-by true dcs acs now d a dc ac h = record {
-  dc_kept = kept-in luminance_dc chrominance_dc dcs now.dc d dc h.dc_kept;
-  ac_kept = kept-in luminance_ac chrominance_ac acs now.ac a ac h.ac_kept;
+kept-by : (avi1 : Bool) (dcs acs : List ℕ) (now : CodeTables) → AreKept now (if avi1 then record {
+  dc = with_defaults luminance_dc chrominance_dc dcs now.dc;
+  ac = with_defaults luminance_ac chrominance_ac acs now.ac;
+} else now)
+kept-by true dcs acs now = record {
+  dc_kept = λ i t e. kept-in luminance_dc chrominance_dc dcs now.dc i t e;
+  ac_kept = λ i t e. kept-in luminance_ac chrominance_ac acs now.ac i t e;
 }
-kept-by false dcs acs now d a dc ac h = h
+kept-by false dcs acs now = record { dc_kept = λ i t e. e; ac_kept = λ i t e. e }
 
-tables-kept : (said : Said) (s : Scan) (d a : ℕ) (dc ac : Table) → AreKept said.huffman d a dc ac
-    → AreKept (tables_of said s) d a dc ac
+tables-kept : (said : Said) (s : Scan) → AreKept said.huffman (tables_of said s)
 unfolding tables_of
-tables-kept said s d a dc ac h = kept-by said.metadata.avi1 s.dc_destinations s.ac_destinations said.huffman d a dc ac h
+tables-kept said s = kept-by said.metadata.avi1 s.dc_destinations s.ac_destinations said.huffman
 
 -- ---- how its components are coded
 
-module _ (t : Tables) (frame : WrittenFrame) where
-  pub indices-are : (ms : List Member) (codings : List Coding) → AreCodedBy whole_pass t frame ms codings
+table-kept : (needed : Bool) (class : HuffmanTableClass) (old new : List (Option Table)) (i : ℕ) (t : Table)
+    → (get_or old i None ≡ Some t → get_or new i None ≡ Some t) → IsTableAt needed class old i t
+    → IsTableAt needed class new i t
+table-kept true class old new i t h is = h is
+table-kept false class old new i t h is = is
+
+module _ (p : Pass) (t : Tables) (frame : WrittenFrame) where
+  pub indices-are : (ms : List Member) (codings : List Coding) → AreCodedBy p t frame ms codings
       → map (λ (k : Coding). k.index) codings ≡ map (λ (m : Member). m.component) ms
   unfolding AreCodedBy
   indices-are [] [] coded = refl
@@ -78,7 +85,7 @@ module _ (t : Tables) (frame : WrittenFrame) where
       ap₂ (λ (x : ℕ) (l : List ℕ). x ∷ l) (sym coded.0.index) (indices-are ms codings coded.1)
 
   -- the component in a slot
-  pub coded-at : (slot : ℕ) (ms : List Member) (codings : List Coding) (k : Coding) → AreCodedBy whole_pass t frame ms codings
+  pub coded-at : (slot : ℕ) (ms : List Member) (codings : List Coding) (k : Coding) → AreCodedBy p t frame ms codings
       → At slot codings k → slice_get frame.components k.index ≡ Some k.component
   unfolding AreCodedBy
   coded-at slot ms [] k coded here = absurd here
@@ -87,7 +94,7 @@ module _ (t : Tables) (frame : WrittenFrame) where
       subst (λ (c : Coding). slice_get frame.components c.index ≡ Some c.component) here coded.0.component
   coded-at (suc slot) (m ∷ ms) (j ∷ codings) k coded here = coded-at slot ms codings k coded.1 here
 
-  pub coded-member : (slot : ℕ) (ms : List Member) (codings : List Coding) (k : Coding) → AreCodedBy whole_pass t frame ms codings
+  pub coded-member : (slot : ℕ) (ms : List Member) (codings : List Coding) (k : Coding) → AreCodedBy p t frame ms codings
       → At slot codings k → (m : Member) × (At slot ms m) × (m.component ≡ k.index)
   unfolding AreCodedBy
   coded-member slot ms [] k coded here = absurd here
@@ -98,7 +105,7 @@ module _ (t : Tables) (frame : WrittenFrame) where
 
   -- they stand in the order of the frame
   pub coded-rising : (factors : List Factors) (least : ℕ) (ms : List Member) (codings : List Coding)
-      → AreCodedBy whole_pass t frame ms codings → AreChoices frame least (map (choice_of factors) ms) → AreRising least codings
+      → AreCodedBy p t frame ms codings → AreChoices frame least (map (choice_of factors) ms) → AreRising least codings
   unfolding AreCodedBy AreChoices AreRising
   coded-rising factors least [] [] coded all = tt
   coded-rising factors least [] (k ∷ codings) coded all = absurd coded
@@ -113,7 +120,7 @@ module _ (t : Tables) (frame : WrittenFrame) where
 
   module _ (said : Said) (steps : steps_of t ≡ said.quantization) where
     -- its components have quantization tables, as those that had scans before
-    pub tabled : (ms : List Member) (codings : List Coding) (sent : List Bool) → AreCodedBy whole_pass t frame ms codings
+    pub tabled : (ms : List Member) (codings : List Coding) (sent : List Bool) → AreCodedBy p t frame ms codings
         → AreTabled said frame sent → AreTabled said frame (sent_with ms sent)
     unfolding AreCodedBy sent_with
     tabled [] [] sent coded before = before
@@ -134,27 +141,27 @@ module _ (t : Tables) (frame : WrittenFrame) where
         ])
 
     in-force : (now : CodeTables) → codes_of t ≡ said.huffman
-        → ((d a : ℕ) (dc ac : Table) → AreKept said.huffman d a dc ac → AreKept now d a dc ac)
-        → (ms : List Member) (codings : List Coding) → AreCodedBy whole_pass t frame ms codings
-        → AreInForce said frame whole_pass now (map slot_of ms) codings
+        → AreKept said.huffman now
+        → (ms : List Member) (codings : List Coding) → AreCodedBy p t frame ms codings
+        → AreInForce said frame p now (map slot_of ms) codings
     unfolding AreCodedBy AreInForce
     in-force now codes keeps [] [] coded = tt
     in-force now codes keeps [] (k ∷ codings) coded = absurd coded
     in-force now codes keeps (m ∷ ms) [] coded = absurd coded
     in-force now codes keeps (m ∷ ms) (k ∷ codings) coded =
-        let q = k.component.factors.quantization in
-        let kept : AreKept now m.dc m.ac k.dc k.ac = keeps m.dc m.ac k.dc k.ac (record {
-          dc_kept = subst (λ (x : CodeTables). get_or x.dc m.dc None ≡ Some k.dc) codes coded.0.dc;
-          ac_kept = subst (λ (x : CodeTables). get_or x.ac m.ac None ≡ Some k.ac) codes coded.0.ac;
-        }) in (
+        let q = k.component.factors.quantization in (
           record {
             index = coded.0.index;
             component = subst (λ (i : ℕ). slice_get frame.components i ≡ Some k.component) (sym coded.0.index)
                 coded.0.component;
             quantization = subst (λ (l : List (Option (List ℕ))). get_or l q None ≡ Some k.quantization) steps
                 coded.0.quantization;
-            dc = kept.dc_kept;
-            ac = kept.ac_kept;
+            dc = table-kept (p.ss == 0) DC (codes_of t).dc now.dc m.dc k.dc
+                (λ e. keeps.dc_kept m.dc k.dc (subst (λ (x : CodeTables). get_or x.dc m.dc None ≡ Some k.dc) codes e))
+                coded.0.dc;
+            ac = table-kept (nat_lt 0 p.se) AC (codes_of t).ac now.ac m.ac k.ac
+                (λ e. keeps.ac_kept m.ac k.ac (subst (λ (x : CodeTables). get_or x.ac m.ac None ≡ Some k.ac) codes e))
+                coded.0.ac;
           },
           in-force now codes keeps ms codings coded.1,
         )
@@ -203,22 +210,29 @@ pub record HasCoded (said : Said) (frame : WrittenFrame) (h : ScanHeader) (codin
   pub choices : h.choices ≡ map (choice_of factors) ms
   pub passes : pass_of (scan_written frame h) ≡ whole_pass
 
+-- The components of a scan have the tables that are in force.
+pub has-codings : (p : Pass) (t : Tables) (said : Said) (frame : WrittenFrame) (h : ScanHeader) (factors : List Factors)
+    (ms : List Member) (codings : List Coding) → h.choices ≡ map (choice_of factors) ms
+    → pass_of (scan_written frame h) ≡ p → AreCodedBy p t frame ms codings → steps_of t ≡ said.quantization
+    → codes_of t ≡ said.huffman → HasCodings said frame (scan_written frame h) codings
+has-codings p t said frame h factors ms codings choices passes coded steps codes =
+    let s = scan_written frame h in
+    let now = tables_of said s in
+    subst (λ (l : List (ℕ × (ℕ × ℕ))). AreInForce said frame (pass_of s) now l codings)
+    (sym (slots-are frame h factors ms choices))
+    (subst (λ (q : Pass). AreInForce said frame q now (map slot_of ms) codings) (sym passes)
+    (in-force p t frame said steps now codes (tables-kept said s) ms codings coded))
+
 module _ (said : Said) (frame : WrittenFrame) (h : ScanHeader) (codings : List Coding) (ms : List Member)
     (sent : List Bool) (levels : ℕ → Levels) (has : HasCoded said frame h codings ms sent)
     (are : AreLevels sent levels) where
   pub legal-scan : IsLegalScan said frame levels (scan_written frame h) codings
-  legal-scan =
-      let s = scan_written frame h in
-      let slots = slots-are frame h has.factors ms has.choices in
-      let now = tables_of said s in
-      let force = in-force has.t frame said has.steps now has.codes (λ d a dc ac. tables-kept said s d a dc ac)
-      ms codings has.coded in
-      record {
-        are_in_force = subst (λ (l : List (ℕ × (ℕ × ℕ))). AreInForce said frame (pass_of s) now l codings) (sym slots)
-            (subst (λ (p : Pass). AreInForce said frame p now (map slot_of ms) codings) (sym has.passes) force);
-        legal = subst (λ (p : Pass). AllByRecursion (λ (c : Coding). IsLegal p (levels c.index)) codings)
-            (sym has.passes) (unsent-legal has.t frame ms codings sent levels has.coded has.unsent are);
-      }
+  legal-scan = record {
+    are_in_force = has-codings whole_pass has.t said frame h has.factors ms codings has.choices has.passes has.coded
+        has.steps has.codes;
+    legal = subst (λ (p : Pass). AllByRecursion (λ (c : Coding). IsLegal p (levels c.index)) codings)
+        (sym has.passes) (unsent-legal has.t frame ms codings sent levels has.coded has.unsent are);
+  }
 
   pub leveled : AreLevels (sent_with ms sent)
       (levels_after (pass_of (scan_written frame h)) (map (λ (c : Coding). c.index) codings) levels)
@@ -226,4 +240,4 @@ module _ (said : Said) (frame : WrittenFrame) (h : ScanHeader) (codings : List C
       subst (λ (p : Pass). AreLevels (sent_with ms sent) (levels_after p (map (λ (c : Coding). c.index) codings) levels))
       (sym has.passes)
       (subst (λ (l : List ℕ). AreLevels (sent_with ms sent) (levels_after whole_pass l levels))
-      (sym (indices-are has.t frame ms codings has.coded)) (levels-sent ms sent levels are))
+      (sym (indices-are whole_pass has.t frame ms codings has.coded)) (levels-sent ms sent levels are))

@@ -1,5 +1,5 @@
 -- What is noted of the band of a scan.
-use Rattle.std.proofs.Common.{◌≡◌, ◌≢◌, ℕ, zero, suc, ◌+◌, ◌-◌, ◌<◌, ◌≤◌, ◌==◌, Bool, true, false, true≢false, List, [], ◌∷◌, ◌++◌}
+use Rattle.std.proofs.Common.{◌≡◌, ◌≢◌, ℕ, suc, ◌+◌, ◌-◌, ◌<◌, ◌≤◌, ◌==◌, Bool, true, false, true≢false, List, [], ◌∷◌, ◌++◌}
 use Rattle.std.proofs.Common.{length, take, drop, get_or, set, replicate, refl, sym, ap, ap₂, ◌∙◌, subst, arith}
 use Rattle.std.proofs.Common.{append_assoc, length-append, length-drop, length-take, take-append-drop, Option, Some, None}
 use Rattle.std.proofs.Math.Seq.{drop-cons, set-append_seam}
@@ -10,7 +10,6 @@ use Rattle.std.proofs.lemmas.List.{get_or-drop, length-replicate, length-take-le
 use Rattle.std.specs.List.{AllByRecursion}
 use Rattle.std.specs.Prelude.{if◌then◌else◌}
 use Rattle.jpeg_bits.specs.Passes.{Pass, band_of, with_band}
-use Rattle.jpeg_meaning.specs.Levels.{IsLegal, Levels, sent_after}
 use Rattle.zaxbriar_strict.specs.Progress.{NotesBand, NotesPass, level_before, levels_in}
 use Rattle.zaxbriar_strict.specs.Sent.{IsBand}
 use Rattle.zaxbriar_strict.specs.Sent.IsBand.{of_acs, of_dc}

@@ -2,6 +2,8 @@
 use Rattle.std.proofs.Common.{◌≡◌, ◌≢◌, ℕ, zero, suc, ◌+◌, ◌<◌, ◌≤◌, Bool, true, false, true≢false, List, [], ◌∷◌, ◌++◌}
 use Rattle.std.proofs.Common.{length, map, set, get_or, take, refl, sym, ap, ◌∙◌, subst, arith}
 use Rattle.std.proofs.lemmas.List.{map-set, take_all, take_more}
+use Rattle.std.proofs.Math.Seq.{map-set_same}
+use Rattle.zaxbriar_strict.specs.Changes.{kept_of}
 use Rattle.zaxbriar_strict.specs.Heads.{AreUnsent, IsLosslessFrame, IsSameFrame, IsSentOnce, IsSequential, factors_of}
 use Rattle.zaxbriar_strict.specs.Heads.{SendsPart, has_scans, is_progressive_process, lowest_of, members_of, number_of, pass_in}
 use Rattle.zaxbriar_strict.specs.Heads.{sent_with}
@@ -78,6 +80,7 @@ pub record NotesFirst (s : Scan) (ms : List Member) (old new : Frame) : Type 0 w
   pub same : IsSameFrame old new
   pub unsent : IsSentOnce old → AreUnsent (has_scans old) ms
   pub sent : has_scans new ≡ sent_with ms (has_scans old)
+  pub kept : map kept_of new.components.items ≡ map kept_of old.components.items
   pub noted : is_progressive_process old.process ≡ true → AreNoted (pass_in s) ms (lowest_of old) (lowest_of new)
 
 pub none-noted : (s : Scan) (f : Frame) → NotesFirst s [] f f
@@ -86,6 +89,7 @@ none-noted s f = record {
   same = same-none f;
   unsent = λ few. tt;
   sent = sym (none-sent (has_scans f));
+  kept = refl;
 }
 
 -- The component at an index of a frame was noted, and nothing else of the frame.
@@ -102,6 +106,7 @@ pub record NotesOne (s : Scan) (i : ℕ) (c next : Component) (old new : Frame) 
   pub factors : factors_of next ≡ factors_of c
   pub unsent : number_of old.process ≢ 2 → c.has_scan ≡ false
   pub sent : next.has_scan ≡ true
+  pub kept : kept_of next ≡ kept_of c
   pub noted : is_progressive_process old.process ≡ true → NotesPass (pass_in s) c.lowest next.lowest
 
 pub one-noted : (s : Scan) (ms : List Member) (m : Member) (c next : Component) (old middle new : Frame) → NotesFirst s ms old middle
@@ -120,6 +125,7 @@ one-noted s ms m c next old middle new n o =
       sent = ap (map (λ (x : Component). x.has_scan)) o.items ∙ map-set (λ (x : Component). x.has_scan) items i next
           ∙ ap (λ (b : Bool). set (has_scans middle) i b) o.sent
           ∙ ap (λ (l : List Bool). set l i true) n.sent ∙ sym (sent-push ms m (has_scans old));
+      kept = ap (map kept_of) o.items ∙ map-set_same kept_of items i next c (o.kept ∙ ap kept_of o.is) ∙ n.kept;
       noted = λ e. noted-push (pass_in s) ms m (lowest_of old) (lowest_of middle) (lowest_of new) (n.noted e) (record {
         was = c.lowest;
         next = next.lowest;
@@ -152,5 +158,6 @@ all-noted s ms place old new are end n tables whole part predicted =
       same = all.same;
       unsent = all.unsent;
       sent = all.sent;
+      kept = all.kept;
       noted = all.noted;
     }

@@ -1,5 +1,5 @@
 -- The places of the blocks of a scan.
-use Rattle.std.proofs.Common.{◌≡◌, ℕ, zero, suc, ◌+◌, List, [], ◌∷◌, ◌++◌, map, refl, sym, ap, ◌∙◌, subst, arith}
+use Rattle.std.proofs.Common.{◌≡◌, ℕ, zero, suc, ◌+◌, List, [], ◌∷◌, ◌++◌, map, refl, sym, ap, ◌∙◌, arith}
 use Rattle.std.proofs.Common.{append-nil, append_assoc}
 use Rattle.std.proofs.Common.{◌*◌, ◌≤◌, ◌<◌, Some, ap₂, min, set, slice_get}
 use Rattle.std.proofs.Math.Nat.{mul-le-mul_right}

@@ -1,18 +1,18 @@
 -- Rows of MCUs of a lossless scan that are read one after the other, interval by interval.
-use Rattle.std.proofs.Common.{◌≡◌, ◌≢◌, ℕ, zero, suc, ◌+◌, ◌-◌, ◌*◌, ◌/◌, ◌%◌, ◌<◌, ◌≤◌, Bool, true, false, List, []}
-use Rattle.std.proofs.Common.{◌∷◌, ◌++◌, length, map, replicate, refl, sym, ap, ap₂, ◌∙◌, subst, arith, append_assoc}
-use Rattle.std.proofs.Common.{append-nil, length-append, div-add-mod', inl, inr, ◌⊎◌}
+use Rattle.std.proofs.Common.{◌≡◌, ◌≢◌, ℕ, suc, ◌+◌, ◌-◌, ◌*◌, ◌/◌, ◌%◌, ◌<◌, ◌≤◌, List, []}
+use Rattle.std.proofs.Common.{◌∷◌, ◌++◌, length, map, refl, sym, ap, ap₂, ◌∙◌, subst, arith, append_assoc}
+use Rattle.std.proofs.Common.{div-add-mod', inl, inr, ◌⊎◌}
 use Rattle.std.proofs.lemmas.Bool.{cases_lt}
 use Rattle.std.proofs.Math.Nat.{add-mul, le_of_mul-le-mul_right, mul-le-mul_right, zero-div, zero-mul}
 use Rattle.std.proofs.lemmas.List.{length-map, length-replicate, map-append, replicate-append-replicate}
 use Rattle.jpeg_bits.specs.Codes.{Table}
 use Rattle.jpeg_bits.specs.Written.WritesEach.{none}
-use Rattle.jpeg_lossless.specs.Written.{WritesRows, WritesSampleDifference}
+use Rattle.jpeg_lossless.specs.Written.{WritesRows}
 use Rattle.zaxbriar_strict.specs.Data.{Data, IsFilling, Reads, data_at}
 use Rattle.zaxbriar_strict.specs.Loaded.{data_of}
 use Rattle.zaxbriar_strict.specs.Markers.{Restarts}
-use Rattle.zaxbriar_strict.specs.Runs.{Closes, WritesGroups}
-use Rattle.zaxbriar_strict.specs.SampleRows.{AreRows, HaveRead, IsAfterRows, IsBeforeRow, Row}
+use Rattle.zaxbriar_strict.specs.Runs.{WritesGroups}
+use Rattle.zaxbriar_strict.specs.SampleRows.{AreRows, IsAfterRows, IsBeforeRow, Row}
 use Rattle.zaxbriar_strict.specs.ScanSamples.{ReadsDifferences, WritesDifferences}
 use Rattle.zaxbriar_strict.specs.declared.intervals.Intervals.{Intervals}
 use Rattle.zaxbriar_strict.proofs.Groups.{closes-more, closes-none, last-written}

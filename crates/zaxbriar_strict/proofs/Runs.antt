@@ -4,11 +4,8 @@ use Rattle.std.proofs.Common.{map, set, refl, sym, ap, ap₂, ◌∙◌, subst, 
 use Rattle.std.proofs.lemmas.Bool.{false≢true}
 use Rattle.std.proofs.lemmas.List.{length-map, map-append}
 use Rattle.std.proofs.Math.Nat.{mul-le-mul_right, one-le-mul, zero-mul}
-use Rattle.std.specs.List.{AllByRecursion}
-use Rattle.std.specs.Prelude.{zip}
 use Rattle.jpeg_bits.specs.Passes.{Block, Pass, Via, listed, predictors_at_start, whole_pass}
-use Rattle.jpeg_meaning.specs.Levels.{Is8Bit, numbers_at}
-use Rattle.zaxbriar_strict.specs.Bands.{block_in}
+use Rattle.jpeg_meaning.specs.Levels.{Is8Bit}
 use Rattle.zaxbriar_strict.specs.Blocks.{ReadsBlock, WritesTurns}
 use Rattle.zaxbriar_strict.specs.Changes.{Change, IsMadeChange, Kept, Place, kept_in, sent_by}
 use Rattle.zaxbriar_strict.specs.Data.{Data, IsFilling, Reads, data_at}
@@ -17,6 +14,7 @@ use Rattle.zaxbriar_strict.specs.Markers.{Restarts}
 use Rattle.zaxbriar_strict.specs.Runs.{AreChanged, AreGood, Closes, IsAfter, IsBefore, ReadsRun, WritesGroups, WritesPassBlocks, at_start}
 use Rattle.zaxbriar_strict.specs.Runs.{repeated, run_in, turns_by}
 use Rattle.zaxbriar_strict.specs.ScanData.{AreGroups}
+use Rattle.zaxbriar_strict.specs.Sent.{AllInner}
 use Rattle.zaxbriar_strict.specs.SentBlocks.{ReadsSent}
 use Rattle.zaxbriar_strict.specs.declared.frame.Component.{Component}
 use Rattle.zaxbriar_strict.specs.declared.intervals.Intervals.{Intervals}
@@ -57,6 +55,7 @@ run-one p via q before after next f g {old} {new} whole b e =
       changed = record {
         made = λ e. absurd (false≢true e);
         next = λ e. absurd (false≢true e);
+        inner = λ e. absurd (false≢true e);
         in_range = λ e. (subst (λ (u : Block). Is8Bit u) (sym (numbers-same b.block)) (b.in_range refl), tt);
       };
       read = λ good. record {
@@ -72,16 +71,18 @@ run-one p via q before after next f g {old} {new} whole b e =
 
 -- a block of a progressive frame
 pub run-sent : (p : Pass) (via : Via) (q : Place) (before after : Past) (f g : Kept) (was is : List ℤ) {old new : Data}
-    → IsMadeChange (record { place = q; old = was; new = is }) f g → ReadsSent p via before after was is old new
+    → IsMadeChange (record { place = q; old = was; new = is }) f g
+    → (g.is_wide ≡ false → (f.is_wide ≡ false) × AllInner is) → ReadsSent p via before after was is old new
     → ReadsRun true p (via ∷ []) (q ∷ []) before after f g old new
 unfolding AreGood
-run-sent p via q before after f g was is m s = record {
+run-sent p via q before after f g was is m n s = record {
   changes = record { place = q; old = was; new = is } ∷ [];
   counted = refl;
   placed = refl;
   changed = record {
     made = λ e. made-one (record { place = q; old = was; new = is }) f g m;
     next = λ e good. (s.next q good.0, tt);
+    inner = λ e w. (let h = n w in (h.0, (h.1, tt)));
     in_range = λ e. absurd (false≢true (sym e));
   };
   read = λ good. s.read q good.0;

@@ -1,15 +1,15 @@
 -- Frames whose header stays the same.
 use Rattle.std.proofs.Common.{◌≡◌, ℕ, zero, suc, ◌*◌, ◌+◌, List, [], ◌∷◌, ◌++◌, length, get_or, map, set, refl, sym, ap, ap₂}
-use Rattle.std.proofs.Common.{◌∙◌, subst, arith, false, ◌≤◌}
+use Rattle.std.proofs.Common.{◌∙◌, subst, arith, Bool, false, ◌≤◌, ℤ}
 use Rattle.std.proofs.lemmas.List.{length-map}
 use Rattle.std.proofs.Math.Seq.{map-set_same}
 use Rattle.std.specs.Prelude.{◌==◌, if◌then◌else◌, replicate, slice_get}
-use Rattle.std.specs.List.{flat_map, range_with_len}
+use Rattle.std.specs.List.{flat_map, list_any, range_with_len}
 use Rattle.jpeg_bits.specs.Passes.{Via}
 use Rattle.jpeg_segments.specs.Frame.{Factors, greatest}
 use Rattle.jpeg_segments.specs.WrittenSegments.{FrameHeader, IsFrameHeader, frame_written}
 use Rattle.zaxbriar_strict.specs.Contexts.{blocks_at, part_places, places_at, row_places, unit_of, unit_places}
-use Rattle.zaxbriar_strict.specs.Changes.{Kept, Place, block_of, kept_in, rows_of}
+use Rattle.zaxbriar_strict.specs.Changes.{Place, block_of, kept_in, kept_of, rows_of}
 use Rattle.zaxbriar_strict.specs.Heads.{IsMade, IsSameFrame, IsSequential, factors_of, header_of}
 use Rattle.zaxbriar_strict.specs.Heads.{is_progressive_process, number_of, written_frame}
 use Rattle.zaxbriar_strict.specs.Kept.{IsKept, IsKeptComponent}
@@ -90,13 +90,27 @@ kept-item f g i old new at k items process precision width height across down = 
 
 -- the blocks that are kept are the same where a component's are
 pub rows-item : (xs ys : List Component) (i : ℕ) (old new : Component) → old ≡ get_or xs i old → new.rows ≡ old.rows
-    → ys ≡ set xs i new → map rows_of ys ≡ map rows_of xs
-rows-item xs ys i old new at same items =
-    ap (map rows_of) items
-    ∙ map-set_same rows_of xs i new old (ap (λ r. map (λ b. b.items) r.items) same ∙ ap rows_of at)
+    → new.is_wide ≡ old.is_wide → ys ≡ set xs i new → map kept_of ys ≡ map kept_of xs
+rows-item xs ys i old new at same wide items =
+    let kept : kept_of new ≡ kept_of old = λ i. (ap (λ r. map (λ b. b.items) r.items) same i, wide i) in
+    ap (map kept_of) items ∙ map-set_same kept_of xs i new old (kept ∙ ap kept_of at)
 
-pub same-kept : (xs ys : List Component) → map rows_of ys ≡ map rows_of xs → ◌≡◌ {A = Kept} (kept_in ys) (kept_in xs)
-same-kept xs ys e = λ i q. block_of (get_or (e i) q.index []) q.row q.column
+rows-first : (xs : List Component) → map rows_of xs ≡ map (λ k. k.0) (map kept_of xs)
+rows-first [] = refl
+rows-first (x ∷ xs) = ap (λ (l : List (List (List (List ℤ)))). rows_of x ∷ l) (rows-first xs)
+
+wide-second : (xs : List Component) → map (λ (c : Component). c.is_wide) xs ≡ map (λ k. k.1) (map kept_of xs)
+wide-second [] = refl
+wide-second (x ∷ xs) = ap (λ (l : List Bool). x.is_wide ∷ l) (wide-second xs)
+
+pub same-kept : (xs ys : List Component) → map kept_of ys ≡ map kept_of xs → kept_in ys ≡ kept_in xs
+same-kept xs ys e =
+    let rows = rows-first ys ∙ ap (map (λ k. k.0)) e ∙ sym (rows-first xs) in
+    let wide = wide-second ys ∙ ap (map (λ k. k.1)) e ∙ sym (wide-second xs) in
+    λ i. record {
+      block = λ q. block_of (get_or (rows i) q.index []) q.row q.column;
+      is_wide = list_any (λ b. b) (wide i);
+    }
 
 -- ---- their components
 

@@ -1,15 +1,14 @@
 -- The lossless image of a stream as far as it was read: segments and scans that a writer emits for the
 -- samples of the components that have scans, whatever those of the others are.
 use Rattle.std.proofs.Common.{◌≡◌, ◌≢◌, ℕ, zero, suc, ◌+◌, ◌*◌, ◌<◌, ◌≤◌, ◌==◌, ◌||◌, ◌⊎◌, inl, inr, Bool, true, false, List, []}
-use Rattle.std.proofs.Common.{◌∷◌, ◌++◌, length, Option, Some, None, get_or, map, set, refl, sym, ap, ap₂, ◌∙◌, subst, arith}
+use Rattle.std.proofs.Common.{◌∷◌, ◌++◌, length, Option, Some, None, get_or, map, set, refl, sym, ap, ◌∙◌, subst, arith}
 use Rattle.std.proofs.Common.{append_assoc}
-use Rattle.std.specs.List.{AllByRecursion, flat_map, list_any, range_with_len}
+use Rattle.std.specs.List.{AllByRecursion, range_with_len}
 use Rattle.std.specs.Prelude.{zip}
 use Rattle.std.proofs.lemmas.Bool.{eq-eqb, false≢true, ne_eqb}
 use Rattle.std.proofs.lemmas.List.{length-map}
 use Rattle.std.proofs.lemmas.List.Folds.{list_any-append}
 use Rattle.std.proofs.lemmas.Option.{none-some}
-use Rattle.jpeg_bits.proofs.PieceWalks.{by_bool}
 use Rattle.jpeg_bits.specs.Codes.{Table}
 use Rattle.jpeg_bits.specs.DefaultTables.{names}
 use Rattle.jpeg_bits.specs.Intervals.{first_group, other_groups}
@@ -23,7 +22,6 @@ use Rattle.jpeg_segments.specs.WrittenSegments.{with_length}
 use Rattle.jpeg_lossless.specs.Differences.{Part}
 use Rattle.jpeg_lossless.specs.Scans.{Way, is_of_rows, lines_by_component, rows_of_interval}
 use Rattle.jpeg_lossless.specs.Written.{WritesRows}
-use Rattle.jpeg_meaning.specs.AcceptedFrames.{HasSamples}
 use Rattle.jpeg_meaning.specs.Found.{Said, nothing_said}
 use Rattle.jpeg_meaning.specs.LosslessScans.{LosslessCoding, mcus_across, mcus_down, parts_of, way_of}
 use Rattle.jpeg_meaning.specs.SaidSegments.{Stands, said_after}
@@ -41,7 +39,6 @@ use Rattle.zaxbriar_strict.specs.Heads.{members_of, number_of, scan_header_of, s
 use Rattle.zaxbriar_strict.specs.Installed.{codes_of}
 use Rattle.zaxbriar_strict.specs.ScanSamples.{ReadsIfLossless, ReadsSamples, sample_slot}
 use Rattle.zaxbriar_strict.specs.declared.frame.Frame.{Frame}
-use Rattle.zaxbriar_strict.specs.declared.frame.Process.{Process}
 use Rattle.zaxbriar_strict.specs.declared.scan.Member.{Member}
 use Rattle.zaxbriar_strict.specs.declared.scan.Scan.{Scan}
 use Rattle.zaxbriar_strict.specs.declared.tables.Tables.{Tables}
@@ -407,7 +404,7 @@ module _ (after at start rest payload : List ℕ) (fill : ℕ) (t : Tables) (old
       let legal : IsScan frame h = head.legal once in
       let unsent = head.unsent once in
       let final : Said = record said { scanned = true } in
-      let members = has-members payload s old new once sized head in
+      let members = has-members payload s old new sized head in
       let r : ReadsSamples t frame ms start rest =
       subst (λ (f : WrittenFrame). ReadsSamples t f ms start rest) (same-written head.same)
       (read (same-made head.same made) (ap number_of head.same.process ∙ lossless)

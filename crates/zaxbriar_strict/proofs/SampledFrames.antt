@@ -1,12 +1,12 @@
 -- Frames of samples, and the data of their scans in the words of a writer (T.81, A.2 and Annex H).
-use Rattle.std.proofs.Common.{◌≡◌, ◌≢◌, ℕ, zero, suc, ◌+◌, ◌-◌, ◌*◌, ◌/◌, ◌%◌, ◌<◌, ◌≤◌, ◌==◌, ◌||◌, Bool, true, false}
-use Rattle.std.proofs.Common.{List, [], ◌∷◌, ◌++◌, length, map, get_or, take, replicate, refl, sym, ap, ap₂, ◌∙◌, subst}
-use Rattle.std.proofs.Common.{arith, Some, append-nil, mul_comm}
+use Rattle.std.proofs.Common.{◌≡◌, ℕ, zero, suc, ◌*◌, ◌/◌, ◌%◌, ◌<◌, ◌≤◌, ◌==◌, ◌||◌, Bool, true, false}
+use Rattle.std.proofs.Common.{List, [], ◌∷◌, ◌++◌, length, map, get_or, replicate, refl, sym, ap, ap₂, ◌∙◌, subst}
+use Rattle.std.proofs.Common.{arith, Some, mul_comm}
 use Rattle.std.proofs.Math.Nat.{mul-pos}
 use Rattle.std.specs.List.{AllByRecursion}
-use Rattle.std.specs.Prelude.{None, Option, if◌then◌else◌, nat_le, slice_get, slice_index_or}
+use Rattle.std.specs.Prelude.{None, Option, if◌then◌else◌, nat_le, slice_get}
 use Rattle.std.proofs.lemmas.Bool.{eq-eqb, leb-true, ne_eqb}
-use Rattle.std.proofs.lemmas.List.{drop_all, length-map, take_all}
+use Rattle.std.proofs.lemmas.List.{drop_all, take_all}
 use Rattle.std.proofs.lemmas.Option.{get_or_from_slice_get}
 use Rattle.jpeg_bits.specs.Codes.{Table}
 use Rattle.jpeg_bits.specs.Intervals.{first_group, groups, other_groups}
@@ -25,7 +25,7 @@ use Rattle.zaxbriar_strict.specs.Members.{HaveTables}
 use Rattle.zaxbriar_strict.specs.Runs.{WritesGroups}
 use Rattle.zaxbriar_strict.specs.SampleRows.{Row}
 use Rattle.zaxbriar_strict.specs.ScanData.{HasMembers}
-use Rattle.zaxbriar_strict.specs.ScanSamples.{ArePlaced, ReadsSamples, Share, codes_or_none, difference_codes, height_of}
+use Rattle.zaxbriar_strict.specs.ScanSamples.{ArePlaced, ReadsSamples, codes_or_none, difference_codes, height_of}
 use Rattle.zaxbriar_strict.specs.ScanSamples.{sample_slot, samples_high, samples_wide, shares_of, share_at, unit_tables}
 use Rattle.zaxbriar_strict.specs.ScanSamples.{width_of}
 use Rattle.zaxbriar_strict.specs.declared.frame.Component.{Component}

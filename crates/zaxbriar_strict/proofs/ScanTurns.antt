@@ -1,7 +1,7 @@
 -- The blocks of a scan of some components of a frame, in an array and in the order of the scan (T.81, A.2).
-use Rattle.std.proofs.Common.{◌≡◌, ℕ, zero, suc, ◌+◌, ◌*◌, ◌/◌, ◌%◌, ◌^◌, ◌≤◌, ◌==◌, ◌&&◌, Bool, true, false, true≢false}
+use Rattle.std.proofs.Common.{◌≡◌, ℕ, zero, suc, ◌+◌, ◌*◌, ◌/◌, ◌%◌, ◌≤◌, ◌==◌, ◌&&◌, Bool, true, false, true≢false}
 use Rattle.std.proofs.Common.{List, [], ◌∷◌, length, map, get_or, replicate, refl, sym, ap, ap₂, ◌∙◌, subst}
-use Rattle.std.proofs.Common.{arith, inl, inr, ℤ, pos, negsuc, neg_ℤ, unsigned_abs, div-add-mod'}
+use Rattle.std.proofs.Common.{arith, inl, inr, ℤ, pos, unsigned_abs, div-add-mod'}
 use Rattle.std.proofs.lemmas.Bool.{and_parts, eq-eqb, eqb-true, ne_eqb}
 use Rattle.std.proofs.lemmas.Int.{ints}
 use Rattle.std.proofs.lemmas.List.{length-map}
@@ -11,7 +11,7 @@ use Rattle.std.specs.Prelude.{Some, slice_get, zip}
 use Rattle.jpeg_bits.specs.Passes.{Block, Via, whole_pass, zero_block}
 use Rattle.jpeg_segments.specs.Frame.{Component, Frame as WrittenFrame}
 use Rattle.jpeg_meaning.specs.InTurn.{AreApart, Fits, IsIn}
-use Rattle.jpeg_meaning.specs.Levels.{Is8Bit, floor_at, numbers_at, toward_zero}
+use Rattle.jpeg_meaning.specs.Levels.{Is8Bit, numbers_at}
 use Rattle.jpeg_meaning.specs.Order.{Spot, mcu_size, spots_of}
 use Rattle.jpeg_meaning.specs.ScanSegments.{Coding, components_of, vias_from}
 use Rattle.jpeg_meaning.specs.Scans.{turns_of, via_at}
@@ -44,7 +44,7 @@ zero-in-range = record {
   acs = all-replicate (λ (x : ℤ). unsigned_abs x ≤ 1023) 63 (pos 0) (omega (arith, ints));
 }
 
-all-map : {A B : Type 0} (P : B → Type 0) (f : A → B) (xs : List A) → AllByRecursion (λ (x : A). P (f x)) xs
+pub all-map : {A B : Type 0} (P : B → Type 0) (f : A → B) (xs : List A) → AllByRecursion (λ (x : A). P (f x)) xs
     → AllByRecursion P (map f xs)
 all-map P f [] all = tt
 all-map P f (x ∷ xs) all = (all.0, all-map P f xs all.1)
@@ -152,7 +152,7 @@ rising-least least (suc slot) (j ∷ more) k all here =
     omega (arith, low, above)
 
 -- then each is found in its slot
-slot-found : (least slot : ℕ) (codings : List Coding) (k : Coding) → AreRising least codings → At slot codings k
+pub slot-found : (least slot : ℕ) (codings : List Coding) (k : Coding) → AreRising least codings → At slot codings k
     → slot_in k.index codings ≡ slot
 unfolding slot_in AreRising
 slot-found least slot [] k all here = absurd here

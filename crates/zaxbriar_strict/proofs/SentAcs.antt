@@ -1,21 +1,16 @@
 -- What a block was before a pass of AC of a progressive frame.
-use Rattle.std.proofs.Common.{◌≡◌, ◌≢◌, ℕ, suc, ◌+◌, ◌-◌, ◌^◌, ◌≤◌, Bool, true, false, List, [], ◌∷◌, ◌++◌, length, drop, take, map}
-use Rattle.std.proofs.Common.{replicate, refl, sym, ap, ap₂, ◌∙◌, subst, arith, ℤ, pos, negsuc, ◌*ℤ◌, drop-drop, length-drop, length-take}
-use Rattle.std.proofs.Common.{Option, Some, None}
-use Rattle.std.proofs.lemmas.Bool.{ne_eqb}
+use Rattle.std.proofs.Common.{◌≡◌, ℕ, suc, ◌+◌, ◌^◌, ◌≤◌, Bool, true, false, List, [], ◌∷◌, ◌++◌, length, drop, take, map}
+use Rattle.std.proofs.Common.{replicate, refl, sym, ap, ap₂, ◌∙◌, arith, ℤ, pos, negsuc, ◌*ℤ◌, drop-drop, length-drop, length-take}
+use Rattle.std.proofs.Common.{Option, Some}
 use Rattle.std.proofs.lemmas.List.{drop_at, length-map, length-replicate, take_at}
 use Rattle.std.specs.Prelude.{if◌then◌else◌}
-use Rattle.jpeg_bits.specs.BlockView.{dc_in}
-use Rattle.jpeg_bits.specs.Codes.{Table}
-use Rattle.jpeg_bits.specs.Passes.{Block, Pass, band_of, band_size, before_band, with_band}
-use Rattle.jpeg_meaning.specs.Levels.{IsLegal, Levels, cut, cut_acs, cut_by, floor_at, sent_after, toward_zero}
+use Rattle.jpeg_bits.specs.Passes.{Pass, band_of, band_size, before_band, with_band}
+use Rattle.jpeg_meaning.specs.Levels.{IsLegal, Levels, cut_acs, sent_after, toward_zero}
 use Rattle.jpeg_meaning.specs.WrittenData.{no_numbers}
 use Rattle.jpeg_meaning.proofs.Written.CutLevels.{all-same, around-band, cut-append, cut-drop, cut-sent, cut-take, cut-unsent}
 use Rattle.jpeg_meaning.proofs.Written.CutLevels.{halved-toward, map-map, same-band, same-take}
 use Rattle.jpeg_meaning.proofs.Written.SentBlocks.{halved, scaled}
-use Rattle.zaxbriar_strict.specs.Bands.{block_in}
-use Rattle.zaxbriar_strict.specs.Data.{Data}
-use Rattle.zaxbriar_strict.specs.Sent.{ReadsSentAc, scaled_by, sent_before}
+use Rattle.zaxbriar_strict.specs.Sent.{scaled_by, sent_before}
 use Rattle.zaxbriar_strict.proofs.SentBlocks.{toward-scaled}
 
 half-zero : (z : ℤ) → toward_zero 1 z ≡ halved z

@@ -1,5 +1,5 @@
 -- Bands of a progressive scan, within their blocks.
-use Rattle.std.proofs.Common.{◌≡◌, ℕ, zero, suc, ◌+◌, ◌-◌, ◌*◌, ◌^◌, ◌<◌, ◌≤◌, Bool, true, false, List, []}
+use Rattle.std.proofs.Common.{◌≡◌, ℕ, zero, suc, ◌+◌, ◌-◌, ◌^◌, ◌≤◌, Bool, true, false, List, []}
 use Rattle.std.proofs.Common.{◌∷◌, ◌++◌, length}
 use Rattle.std.proofs.Common.{take, drop, map, refl, sym, ap, ◌∙◌, subst, arith, ℤ, pos, ◌*ℤ◌, append-nil}
 use Rattle.std.proofs.Common.{length-append}
@@ -7,14 +7,14 @@ use Rattle.std.proofs.Common.{length-take, length-drop}
 use Rattle.std.proofs.lemmas.List.{length-map, length-replicate}
 use Rattle.jpeg_bits.specs.BlockView.{dc_in}
 use Rattle.jpeg_bits.specs.Codes.{Table}
-use Rattle.jpeg_bits.specs.Passes.{Pass, band_of, band_size, before_band, with_band}
+use Rattle.jpeg_bits.specs.Passes.{Pass, band_of, band_size, before_band}
 use Rattle.jpeg_meaning.specs.Levels.{toward_zero}
-use Rattle.jpeg_meaning.specs.WrittenData.{NoneNew, WritesAc, WritesBand, WritesRefinement, corrections}
+use Rattle.jpeg_meaning.specs.WrittenData.{WritesAc, WritesBand, WritesRefinement}
 use Rattle.jpeg_meaning.specs.WrittenData.{no_numbers}
 use Rattle.jpeg_meaning.specs.WrittenData.WritesAc.{again, again_run, first, first_run}
 use Rattle.jpeg_meaning.proofs.Written.CutLevels.{around-band}
 use Rattle.zaxbriar_strict.specs.BandCodes.{AreCorrections, ReadsCodes, Refines, RefinesCodes}
-use Rattle.zaxbriar_strict.specs.Data.{Data, Reads, Takes}
+use Rattle.zaxbriar_strict.specs.Data.{Data, Takes}
 use Rattle.zaxbriar_strict.specs.Sent.{AllInner, ReadsSentAc, scaled_by, sent_before}
 use Rattle.zaxbriar_strict.proofs.Bands.{zeros-scaled}
 use Rattle.zaxbriar_strict.proofs.RefinedBands.{all-after, left-over, no-corrections, none-empty, refines-then}

@@ -8,7 +8,7 @@ use Rattle.jpeg_bits.specs.Passes.{whole_pass}
 use Rattle.jpeg_meaning.specs.Levels.{Levels, nothing_sent, sent_after}
 use Rattle.jpeg_meaning.specs.WrittenScans.{levels_after, levels_of_one}
 use Rattle.jpeg_meaning.proofs.Order.Apart.{At, at-all}
-use Rattle.zaxbriar_strict.specs.Heads.{AreUnsent, sent_with}
+use Rattle.zaxbriar_strict.specs.Heads.{AreUnsent, IsUnread, sent_with}
 use Rattle.zaxbriar_strict.specs.declared.frame.Component.{Component}
 use Rattle.zaxbriar_strict.specs.declared.scan.Member.{Member}
 use Rattle.zaxbriar_strict.proofs.DecidedFrames.{equal}
@@ -63,11 +63,11 @@ sent-all (x ∷ xs) all zero = all.0
 sent-all (x ∷ xs) all (suc i) = sent-all xs all.1 i
 
 -- none of a list
-pub unsent-all : (xs : List Component) → AllByRecursion (λ (c : Component). c.has_scan ≡ false) xs
+pub unsent-all : (xs : List Component) → AllByRecursion IsUnread xs
     → (i : ℕ) → i < length (map (λ (c : Component). c.has_scan) xs)
     → get_or (map (λ (c : Component). c.has_scan) xs) i true ≡ false
 unsent-all [] all i lt = absurd (omega arith)
-unsent-all (x ∷ xs) all zero lt = all.0
+unsent-all (x ∷ xs) all zero lt = all.0.unsent
 unsent-all (x ∷ xs) all (suc i) lt = unsent-all xs all.1 i (omega arith)
 
 -- ---- what was sent of them

@@ -1,5 +1,5 @@
 -- What a block was before a pass of a progressive frame that read it.
-use Rattle.std.proofs.Common.{◌≡◌, ◌≢◌, ℕ, zero, suc, ◌+◌, ◌-◌, ◌≤◌, ◌==◌, Bool, true, false, List, [], ◌∷◌, ◌++◌, length, drop, take, ◌*ℤ◌, ◌^◌}
+use Rattle.std.proofs.Common.{◌≡◌, ◌≢◌, ℕ, suc, ◌+◌, ◌≤◌, ◌==◌, Bool, true, false, List, [], ◌∷◌, ◌++◌, length, drop, take, ◌*ℤ◌, ◌^◌}
 use Rattle.std.proofs.Common.{map, refl, sym, ap, ◌∙◌, subst, arith, ℤ, pos, negsuc, ◌≤ℤ◌, unsigned_abs, length-append, length-drop, length-take, Some}
 use Rattle.std.proofs.Common.{not, true≢false}
 use Rattle.std.proofs.lemmas.Bool.{false≢true, ne_eqb}
@@ -23,12 +23,13 @@ use Rattle.zaxbriar_strict.proofs.SentTurns.{acs-turn, dc-turn}
 use Rattle.jpeg_bits.specs.BlockView.{dc_in}
 use Rattle.jpeg_bits.specs.Codes.{Table}
 use Rattle.jpeg_bits.specs.Passes.{Block, Pass, band_of, band_size, before_band, with_band}
-use Rattle.jpeg_meaning.specs.Levels.{Is8Bit, cut_by, floor_at, toward_zero}
+use Rattle.jpeg_meaning.specs.Levels.{cut_by, floor_at, toward_zero}
 use Rattle.jpeg_meaning.specs.WrittenData.{no_numbers}
 use Rattle.zaxbriar_strict.specs.Bands.{block_in}
 use Rattle.zaxbriar_strict.specs.Changes.{Change, IsNext, IsReady, Place}
 use Rattle.zaxbriar_strict.specs.Data.{Data}
 use Rattle.zaxbriar_strict.specs.Sent.{ReadsSentAc, ReadsSentDc, scaled_by, sent_before}
+use Rattle.zaxbriar_strict.proofs.CutBlocks.{acs-cut, dc-cut}
 use Rattle.zaxbriar_strict.proofs.SentAcs.{acs-next}
 use Rattle.zaxbriar_strict.proofs.SentBlocks.{dc-next, dc_pass}
 use Rattle.zaxbriar_strict.proofs.SentRanges.{acs-small, dc-in-range}
@@ -44,6 +45,7 @@ pub dc-is-next : (first : Bool) (al : ℕ) (table : Table) (before after : ℤ) 
 dc-is-next first al table before after q old new from to ready r = record {
   back = λ l u many all legal e. dc-next first al table before after old new from to l u ready r legal e;
   in_range = λ low b. dc-in-range first al table before after old new from to ready r low b;
+  onward = λ l sized legal c. dc-cut first al l old new r.number (r.is refl) r.others c;
 }
 
 before-size : (p : Pass) (numbers : List ℤ) → length (sent_before p numbers) ≡ length numbers
@@ -111,6 +113,8 @@ module _ (p : Pass) (some : 1 ≤ p.ss) (within : p.ss ≤ p.se) (most : p.se �
       acs = acs-small p (drop 1 old) r.numbers r.was
           (subst (λ (l : List ℤ). AllByRecursion (λ (x : ℤ). unsigned_abs x ≤ 1023) l) new-acs b.acs);
     };
+    onward = λ l sized legal c.
+        acs-cut p l old new r.numbers some within most sized r.sized new-dc new-acs same-length c;
   }
 
 -- ---- the pass of a band

@@ -1,9 +1,9 @@
 -- Numbers at a level, and the bits that a refinement sends of them.
 use Rattle.std.proofs.Common.{◌≡◌, ◌≢◌, ℕ, zero, suc, ◌+◌, ◌-◌, ◌*◌, ◌/◌, ◌%◌, ◌^◌, ◌<◌, ◌≤◌, Bool, true}
 use Rattle.std.proofs.Common.{false, List, []}
-use Rattle.std.proofs.Common.{◌∷◌, ◌++◌, refl, sym, ap, ◌∙◌, subst, arith, ℤ, pos, negsuc, neg_ℤ, ◌+ℤ◌, ◌-ℤ◌}
+use Rattle.std.proofs.Common.{◌∷◌, refl, sym, ap, ◌∙◌, subst, arith, ℤ, pos, negsuc, neg_ℤ, ◌+ℤ◌, ◌-ℤ◌}
 use Rattle.std.proofs.Common.{◌*ℤ◌, ◌≤ℤ◌, ◌<ℤ◌}
-use Rattle.std.proofs.Common.{set, drop, unsigned_abs, pow_pos, pow-add, pow-suc, mul_assoc, le_refl}
+use Rattle.std.proofs.Common.{set, drop, unsigned_abs, pow_pos, pow-add, pow-suc, le_refl}
 use Rattle.std.proofs.lemmas.Bool.{le-leb}
 use Rattle.std.proofs.lemmas.Int.{ints}
 use Rattle.std.specs.Int.Signed.{lt_z, lt_z_no, lt_z_yes}
@@ -13,7 +13,7 @@ use Rattle.jpeg_bits.specs.Written.{bit, low_bits}
 use Rattle.jpeg_bits.specs.Codes.{Table}
 use Rattle.jpeg_bits.specs.Passes.{Pass}
 use Rattle.jpeg_bits.specs.BlockView.{dc_in}
-use Rattle.jpeg_meaning.specs.Levels.{floor_at, toward_zero}
+use Rattle.jpeg_meaning.specs.Levels.{floor_at}
 use Rattle.jpeg_meaning.specs.WrittenData.{WritesDc, WritesDifference, corrections, is_old, low_bit, sign_bit}
 use Rattle.jpeg_meaning.specs.WrittenData.WritesDc.{one_bit, whole}
 use Rattle.jpeg_meaning.proofs.Written.WrittenRefinements.{corrections-old, neg-times, spread, times-two_power}

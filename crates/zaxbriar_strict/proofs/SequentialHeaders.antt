@@ -2,7 +2,7 @@
 use Rattle.std.proofs.Common.{◌≡◌, ℕ, ◌+◌, ◌-◌, ◌/◌, ◌%◌, ◌<◌, ◌≤◌, Bool, true, false, ◌&&◌, ◌||◌, ◌==◌}
 use Rattle.std.proofs.Common.{List, [], ◌∷◌, length, map, refl, sym, ap, ◌∙◌, subst, arith, Some}
 use Rattle.std.proofs.lemmas.Bool.{and_parts, eq-eqb, eqb-true}
-use Rattle.std.proofs.lemmas.List.{length-map, length-take-le}
+use Rattle.std.proofs.lemmas.List.{length-take-le}
 use Rattle.std.proofs.lemmas.List.Quantifiers.{position-Some}
 use Rattle.std.specs.List.{AllByRecursion}
 use Rattle.std.specs.Prelude.{zip}
@@ -72,28 +72,19 @@ module _ (frame : WrittenFrame) (factors : List Factors) where
 pub sent-once : (f : Frame) → IsSequential f → IsSentOnce f
 sent-once f h = λ e. omega (arith, h, e)
 
-module _ (payload : List ℕ) (s : Scan) (old new : Frame) (once : IsSentOnce old) where
-  pub members-some : ReadsHeader payload s old new → 1 ≤ length (members_of s)
-  members-some head =
-      let some = (head.legal once).some in
-      let e = length-map (members_of s) (choice_of (header_of old).components) in
-      omega (arith, some, e)
-
-  -- A scan has some components of the frame.
-  pub has-members : length s.members ≡ 4 → ReadsHeader payload s old new → HasMembers old s
-  has-members sized head =
-      let all = (head.legal once).choices in
-      let few = head.counted in
-      let some = members-some head in
-      let counted : s.count ≡ length (members_of s) =
-      sym (length-take-le s.count s.members (omega (arith, few, sized))) in
-      record {
-        counted = counted;
-        some = omega (arith, counted, some);
-        within = subst (λ (n : ℕ). AllByRecursion (λ (m : Member). m.component < n) (members_of s)) (written-count old)
-            (within-from (written_frame old) (header_of old).components 0 (members_of s) all);
-        tables = tables-from (written_frame old) (header_of old).components 0 (members_of s) all;
-      }
+-- A scan has some components of the frame.
+pub has-members : (payload : List ℕ) (s : Scan) (old new : Frame) → length s.members ≡ 4
+    → ReadsHeader payload s old new → HasMembers old s
+has-members payload s old new sized head =
+    let few = head.counted in
+    let factors = (header_of old).components in
+    record {
+      counted = sym (length-take-le s.count s.members (omega (arith, few, sized)));
+      some = head.some;
+      within = subst (λ (n : ℕ). AllByRecursion (λ (m : Member). m.component < n) (members_of s)) (written-count old)
+          (within-from (written_frame old) factors 0 (members_of s) head.choices);
+      tables = tables-from (written_frame old) factors 0 (members_of s) head.choices;
+    }
 
 pub same-members : (old new : Frame) (s : Scan) → IsSameFrame old new → HasMembers old s → HasMembers new s
 same-members old new s same has = record {

@@ -1,5 +1,5 @@
 -- The components of a lossless scan, with how many samples an MCU has of each.
-use Rattle.std.proofs.Common.{◌≡◌, ◌≢◌, ℕ, zero, suc, ◌+◌, ◌*◌, ◌<◌, ◌≤◌, ◌==◌, List, [], ◌∷◌, ◌++◌, length, map, set, get_or}
+use Rattle.std.proofs.Common.{◌≡◌, ℕ, zero, suc, ◌+◌, ◌*◌, ◌<◌, ◌≤◌, ◌==◌, List, [], ◌∷◌, ◌++◌, length, map, set, get_or}
 use Rattle.std.proofs.Common.{take, replicate, refl, sym, ap, ap₂, ◌∙◌, subst, arith, append-nil, append_assoc, false, ltb}
 use Rattle.std.proofs.lemmas.Bool.{ltb-false}
 use Rattle.std.specs.List.{AllByRecursion}
@@ -12,7 +12,7 @@ use Rattle.zaxbriar_strict.specs.Contexts.{IsInstalled}
 use Rattle.zaxbriar_strict.specs.Data.{Data}
 use Rattle.zaxbriar_strict.specs.Installed.{codes_of}
 use Rattle.zaxbriar_strict.specs.Members.{HaveTables}
-use Rattle.zaxbriar_strict.specs.ScanSamples.{ArePlaced, ReadsDifferences, Share, difference_codes, part_by, share_at}
+use Rattle.zaxbriar_strict.specs.ScanSamples.{ArePlaced, ReadsDifferences, Share, difference_codes, share_at}
 use Rattle.zaxbriar_strict.specs.ScanSamples.{share_in, share_of, shares_of, unit_tables}
 use Rattle.zaxbriar_strict.specs.declared.frame.Component.{Component}
 use Rattle.zaxbriar_strict.specs.declared.lossless.Lines.{Lines}

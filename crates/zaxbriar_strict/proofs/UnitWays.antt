@@ -7,7 +7,7 @@ use Rattle.std.proofs.lemmas.List.{length-replicate, map-append, replicate-appen
 use Rattle.std.proofs.lemmas.List.Sums.{sum_by-cons}
 use Rattle.std.proofs.lemmas.Option.{get_or_from_slice_get, same_Some, slice_get_within}
 use Rattle.std.specs.List.{AllByRecursion, flat_map, range_with_len}
-use Rattle.std.specs.Prelude.{Some, if◌then◌else◌, slice_get, sum_by, zip}
+use Rattle.std.specs.Prelude.{Some, if◌then◌else◌, slice_get, sum_by}
 use Rattle.jpeg_bits.specs.Passes.{Pass, Via}
 use Rattle.jpeg_segments.specs.Frame.{Component as WrittenComponent, Frame as WrittenFrame, component_of}
 use Rattle.jpeg_meaning.specs.InTurn.{Fits}
@@ -22,7 +22,7 @@ use Rattle.zaxbriar_strict.specs.Contexts.{AreWays, blocks_at, unit_of}
 use Rattle.zaxbriar_strict.specs.Heads.{IsMade, written_frame}
 use Rattle.zaxbriar_strict.specs.Members.{HaveTables}
 use Rattle.zaxbriar_strict.specs.Runs.{repeated, turns_by}
-use Rattle.zaxbriar_strict.specs.ScanData.{AreCodedBy, AreGroups, AreInstalled, IsCodedBy, ReadsData, own_high_of, own_wide_of}
+use Rattle.zaxbriar_strict.specs.ScanData.{AreAlike, AreCodedBy, AreGroups, AreInstalled, IsAtSpot, IsCodedBy, ReadsData, own_high_of, own_wide_of}
 use Rattle.zaxbriar_strict.specs.ScanData.{units_high, units_wide, ways_of}
 use Rattle.zaxbriar_strict.specs.declared.frame.Component.{Component}
 use Rattle.zaxbriar_strict.specs.declared.frame.Frame.{Frame}
@@ -122,21 +122,21 @@ unit-not-empty p t f ms codings made coded some =
 -- ---- the rest of a list
 
 -- a list is the rest of another one from an index on
-abbrev IsRest : {A : Type 0} → ℕ → List A → List A → Type 0
+abbrev pub IsRest : {A : Type 0} → ℕ → List A → List A → Type 0
 IsRest {A} from rest whole = (j : ℕ) (x : A) → At j rest x → At (from + j) whole x
 
-rest-whole : {A : Type 0} (xs : List A) → IsRest 0 xs xs
+pub rest-whole : {A : Type 0} (xs : List A) → IsRest 0 xs xs
 rest-whole xs j x at =
     let e : j ≡ 0 + j = omega arith in
     subst (λ (i : ℕ). At i xs x) e at
 
-rest-next : {A : Type 0} (from : ℕ) (y : A) (rest whole : List A) → IsRest from (y ∷ rest) whole
+pub rest-next : {A : Type 0} (from : ℕ) (y : A) (rest whole : List A) → IsRest from (y ∷ rest) whole
     → IsRest (from + 1) rest whole
 rest-next from y rest whole is j x at =
     let e : from + suc j ≡ from + 1 + j = omega arith in
     subst (λ (i : ℕ). At i whole x) e (is (suc j) x at)
 
-rest-first : {A : Type 0} (from : ℕ) (y : A) (rest whole : List A) → IsRest from (y ∷ rest) whole → At from whole y
+pub rest-first : {A : Type 0} (from : ℕ) (y : A) (rest whole : List A) → IsRest from (y ∷ rest) whole → At from whole y
 rest-first from y rest whole is =
     let e : from + 0 ≡ from = omega arith in
     subst (λ (i : ℕ). At i whole y) e (is 0 y refl)
@@ -280,15 +280,17 @@ ways-by p t frame (m ∷ n ∷ ms) (k ∷ []) coded = absurd coded.1
 -- What was read of all MCUs of a scan are its data.
 pub data-read : (k : Bool) (p : Pass) (t : Tables) (frame : WrittenFrame) (ms : List Member)
     (installed : AreInstalled p t frame ms) (places : List Place) (from to : Kept) (bytes rest : List ℕ)
-    → IsRead k p (unit_by installed.codings) t.interval (units_high frame ms * units_wide frame ms) places from to bytes
+    → AreAlike (IsAtSpot installed.codings) (spots_of frame (components_of installed.codings)) places → IsRead k p (unit_by installed.codings) t.interval (units_high frame ms * units_wide frame ms) places from to bytes
     rest → ReadsData k p t frame ms from to bytes rest
-data-read k p t frame ms installed places from to bytes rest r =
+data-read k p t frame ms installed places from to bytes rest at r =
     let codings = installed.codings in
     let ways = ways-by p t frame ms codings installed.are in
     record {
       installed = installed;
       changes = r.changes;
       counted = r.counted ∙ ap length ways;
+      placed = subst (λ (l : List Place). AreAlike (IsAtSpot codings) (spots_of frame (components_of codings)) l)
+          (sym r.placed) at;
       changed = r.changed;
       coded = λ good.
           subst (λ (u : List Via). AreGroups p (t.interval * mcu_size (components_of codings))
@@ -301,12 +303,12 @@ data-read k p t frame ms installed places from to bytes rest r =
 -- ---- the same of what is read
 
 -- what a component of a made frame is to a writer
-record IsOwn (f : Frame) (index : ℕ) (c : WrittenComponent) : Type 0 where
-  own : Component
-  at : slice_get f.components.items index ≡ Some own
-  is : c ≡ component_in f own
+pub record IsOwn (f : Frame) (index : ℕ) (c : WrittenComponent) : Type 0 where
+  pub own : Component
+  pub at : slice_get f.components.items index ≡ Some own
+  pub is : c ≡ component_in f own
 
-own-coded : (p : Pass) (t : Tables) (f : Frame) (m : Member) (k : Coding) → IsMade f → IsCodedBy p t (written_frame f) m k
+pub own-coded : (p : Pass) (t : Tables) (f : Frame) (m : Member) (k : Coding) → IsMade f → IsCodedBy p t (written_frame f) m k
     → IsOwn f m.component k.component
 own-coded p t f m k made coded =
     let e : slice_get (written_frame f).components m.component ≡ Some k.component =

@@ -5,13 +5,13 @@ use Rattle.jpeg_bits.specs.Written.{marker}
 use Rattle.jpeg_segments.specs.Frame.{frame_of}
 use Rattle.jpeg_segments.specs.WrittenSegments.{FrameHeader, Header, frame_payload, marker_code}
 use Rattle.jpeg_segments.specs.WrittenSegments.{payload_of, with_length}
-use Rattle.jpeg_meaning.specs.AcceptedFrames.{HasSamples}
+use Rattle.jpeg_meaning.specs.AcceptedFrames.{HasPicture, HasSamples}
 use Rattle.jpeg_meaning.specs.Found.{Said, nothing_said}
 use Rattle.jpeg_meaning.specs.SaidSegments.{said_after}
-use Rattle.zaxbriar_strict.specs.Exact.{HasHeader, HasSequentialPicture, WritesSegments}
+use Rattle.zaxbriar_strict.specs.Exact.{HasHeader, HasProgressivePicture, HasSequentialPicture, WritesSegments}
 use Rattle.zaxbriar_strict.specs.Exact.WritesSegments.{more}
 use Rattle.zaxbriar_strict.specs.Heads.{IsMade, IsSameFrame, ReadsFrame, header_of, is_baseline_of}
-use Rattle.zaxbriar_strict.specs.Heads.{is_baseline_process, number_of, written_frame}
+use Rattle.zaxbriar_strict.specs.Heads.{is_baseline_process, is_progressive_process, number_of, written_frame}
 use Rattle.zaxbriar_strict.specs.Installed.{codes_of, steps_of}
 use Rattle.zaxbriar_strict.specs.Markers.{BeginsMarker}
 use Rattle.zaxbriar_strict.specs.declared.frame.Frame.{Frame}
@@ -35,6 +35,27 @@ picture-same {old} {new} same p = record {
   has = subst (λ (q : Process). HasSequentialPicture (number_of q) (header_of new)) (sym same.process)
       (subst (λ (h : FrameHeader). HasSequentialPicture (number_of old.process) h) (sym same.header) p.has);
 }
+
+-- a progressive frame that keeps its rules, and has a picture
+pub record IsProgressiveFrame (f : Frame) : Type 0 where
+  pub made : IsMade f
+  pub has : HasProgressivePicture (number_of f.process) (header_of f)
+
+pub progressive-same : {old new : Frame} → IsSameFrame old new → IsProgressiveFrame old → IsProgressiveFrame new
+progressive-same {old} {new} same p = record {
+  made = same-made same p.made;
+  has = subst (λ (q : Process). HasProgressivePicture (number_of q) (header_of new)) (sym same.process)
+      (subst (λ (h : FrameHeader). HasProgressivePicture (number_of old.process) h) (sym same.header) p.has);
+}
+
+progressive-number : (p : Process) → number_of p ≡ 2 → is_progressive_process p ≡ true
+progressive-number Baseline e = absurd (omega (arith, e))
+progressive-number Extended e = absurd (omega (arith, e))
+progressive-number Progressive e = refl
+progressive-number Lossless e = absurd (omega (arith, e))
+
+pub progressive-process : (f : Frame) → IsProgressiveFrame f → is_progressive_process f.process ≡ true
+progressive-process f p = progressive-number f.process p.has.progressive
 
 -- a lossless frame that keeps its rules, and has samples
 pub record IsSampledFrame (f : Frame) : Type 0 where
@@ -78,18 +99,15 @@ module _ (after at middle rest payload : List ℕ) (code : ℕ) (said : Said)
         (frame_payload (header_of f)) (sym read.marked) (sym read.are)) written;
   }
 
-  pub after-header : said.frame ≡ None → HasSequentialPicture (number_of f.process) (header_of f)
+  pub after-header : said.frame ≡ None → number_of f.process ≤ 2 → HasPicture (header_of f)
       → WritesSegments nothing_said after (said_after said (Header (number_of f.process) (header_of f))) rest
-  after-header none has =
+  after-header none few picture =
       let header = Header (number_of f.process) (header_of f) in
       more said begins.fill header rest
       (subst (λ (l : List ℕ). WritesSegments nothing_said after said l)
       (segment-bytes at middle rest payload code begins parts (marker_code header) (payload_of header)
       (sym read.marked) (sym read.are)) written)
-      ((none, read.made.legal), inl (few, has.picture)) few
-    where
-      few : number_of f.process ≤ 2
-      few = (let low = has.sequential in omega (arith, low))
+      ((none, read.made.legal), inl (few, picture)) few
 
   pub knows-header : (t new : Tables) → new ≡ t → Knows t None said
       → Knows new (Some f) (said_after said (Header (number_of f.process) (header_of f)))

@@ -63,6 +63,16 @@ module _ (at middle rest payload : List ℕ) (code : ℕ) (begins : BeginsMarker
       begins.parts ∙ ap (λ (l : List ℕ). marker begins.fill code l) parts
       ∙ ap₂ (λ (n : ℕ) (l : List ℕ). marker begins.fill n (with_length l ++ rest)) (sym coded) (sym is)
 
+-- what is known after quantization tables
+pub knows-steps : (t new : Tables) (frame : Option Frame) (said : Said) (payload : List ℕ)
+    (i : InstallsSteps payload t new) → Knows t frame said → Knows new frame (said_after said (Quantization i.tables))
+knows-steps t new frame said payload i k = record {
+  steps = i.installed ∙ ap (λ (l : List (Option (List ℕ))). updated l (quantization_tables i.tables)) k.steps;
+  codes = i.codes ∙ k.codes;
+  interval = i.interval ∙ k.interval;
+  baseline = k.baseline;
+}
+
 module _ (at middle rest payload : List ℕ) (code : ℕ) (said : Said) (begins : BeginsMarker code at middle)
     (parts : middle ≡ with_length payload ++ rest) where
   after-codes : (t new : Tables) (frame : Option Frame) → code ≡ 196 → InstallsCodes frame payload t new
@@ -97,13 +107,7 @@ module _ (at middle rest payload : List ℕ) (code : ℕ) (said : Said) (begins 
         (sym i.are);
     stands = (i.legal, tt);
     may = unscanned;
-    known = record {
-      steps = i.installed
-          ∙ ap (λ (l : List (Option (List ℕ))). updated l (quantization_tables i.tables)) k.steps;
-      codes = i.codes ∙ k.codes;
-      interval = i.interval ∙ k.interval;
-      baseline = k.baseline;
-    };
+    known = knows-steps t new frame said payload i k;
     framed = refl;
     scanned = refl;
     tables = inr unscanned;

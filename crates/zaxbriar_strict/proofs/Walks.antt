@@ -13,7 +13,7 @@ use Rattle.jpeg_segments.proofs.Codecs.{AreBytes}
 use Rattle.jpeg_meaning.specs.AcceptedFrames.{HasSamples}
 use Rattle.jpeg_meaning.specs.Found.{Said, nothing_said}
 use Rattle.jpeg_meaning.specs.SaidSegments.{said_after}
-use Rattle.zaxbriar_strict.specs.Exact.{HasOtherAdobe, HasSequentialPicture, IsExact, WritesSegments}
+use Rattle.zaxbriar_strict.specs.Exact.{HasOtherAdobe, HasProgressivePicture, HasSequentialPicture, IsExact, WritesSegments}
 use Rattle.zaxbriar_strict.specs.Exact.WritesSegments.{more, none}
 use Rattle.zaxbriar_strict.specs.Heads.{has_scans, header_of, is_baseline_of, members_of, number_of, scan_header_of}
 use Rattle.zaxbriar_strict.specs.Heads.{sent_with, written_frame}
@@ -24,9 +24,11 @@ use Rattle.zaxbriar_strict.specs.declared.frame.Component.{Component}
 use Rattle.zaxbriar_strict.specs.declared.frame.Frame.{Frame}
 use Rattle.zaxbriar_strict.specs.declared.walk.Walk.{Walk}
 use Rattle.zaxbriar_strict.proofs.Applications.{IsOtherAdobe}
-use Rattle.zaxbriar_strict.proofs.DecidedFrames.{equal, picture-or-not, samples-or-not}
+use Rattle.zaxbriar_strict.proofs.DecidedFrames.{equal, picture-or-not, progressive-or-not, samples-or-not}
 use Rattle.zaxbriar_strict.proofs.ImageParts.{ImagePart, later-tables, part-closed, part-front, part-headed, part-scan}
 use Rattle.zaxbriar_strict.proofs.ImageParts.{part-segment}
+use Rattle.zaxbriar_strict.proofs.ProgressParts.{progress-headed}
+use Rattle.zaxbriar_strict.proofs.ProgressWalks.{progressed-end, progressed-other, progressed-scan}
 use Rattle.zaxbriar_strict.proofs.SameFrames.{same-then, same-written}
 use Rattle.zaxbriar_strict.proofs.SampleParts.{SamplesPart, samples-closed, samples-front, samples-headed, samples-scan}
 use Rattle.zaxbriar_strict.proofs.SampleParts.{samples-segment, shifted-scan}
@@ -37,8 +39,9 @@ use Rattle.zaxbriar_strict.proofs.WalkedFrames.{knows-scan, picture-same, sample
 use Rattle.zaxbriar_strict.proofs.WalkedSegments.{Follows, IsLater, Knows, after-other, frame-after, known-after}
 use Rattle.zaxbriar_strict.proofs.WalkedSegments.{knows-unscanned, lossless-segment, segment-bytes}
 use Rattle.zaxbriar_strict.proofs.WalkStates.{IsBefore, IsBegun, IsSampled, Walked, same-frame, sent-count, some-component}
-use Rattle.zaxbriar_strict.proofs.WalkStates.Walked.{has_later, has_none, has_shifted, is_before, is_begun, is_sampled}
-use Rattle.zaxbriar_strict.proofs.WalkStates.Walked.{with_adobe}
+use Rattle.zaxbriar_strict.proofs.WalkStates.Progress.{comes_on}
+use Rattle.zaxbriar_strict.proofs.WalkStates.Walked.{has_later, has_none, has_shifted, is_before, is_begun, is_progressed}
+use Rattle.zaxbriar_strict.proofs.WalkStates.Walked.{is_sampled, with_adobe}
 
 -- ---- a segment of tables, or of an application
 
@@ -100,12 +103,13 @@ module _ (stream at middle rest payload : List ℕ) (code : ℕ) (old new : Walk
           is = o.frame ∙ b.is;
           pictured = b.pictured;
           was_said = f.framed ∙ b.was_said;
+          unprogressive = b.unprogressive;
           unsampled = b.unsampled;
         })
         | inr (inl x) ↦ with_adobe (other-adobe-in b.header.before b.header.after e.front b.header.starts e.parts x)
         | inr (inr later) ↦ has_later b.header
             (later-tables b.header.after at b.said (written_frame b.frame) (has_scans b.frame) b.part begins.fill
-            payload rest (bytes-are 219 (sym later.0)) later.1) b.unsampled
+            payload rest (bytes-are 219 (sym later.0)) later.1) b.unprogressive b.unsampled
       ]
 
   other-sampled : IsSampled stream at old → Walked stream rest new
@@ -125,6 +129,7 @@ module _ (stream at middle rest payload : List ℕ) (code : ℕ) (old new : Walk
           sampled = b.sampled;
           was_said = frame-after b.said f.s ∙ f.framed ∙ b.was_said;
           unpictured = b.unpictured;
+          unprogressive = b.unprogressive;
         })
         | inr (inl x) ↦ with_adobe (other-adobe-in b.header.before b.header.after e.front b.header.starts e.parts x)
         | inr (inr later) ↦ absurd (false≢true later.1)
@@ -132,11 +137,13 @@ module _ (stream at middle rest payload : List ℕ) (code : ℕ) (old new : Walk
 
   walked-other : Walked stream at old → Walked stream rest new
   walked-other (with_adobe x) = with_adobe x
-  walked-other (has_none h n m) = has_none h n m
-  walked-other (has_later h x m) = has_later h x m
-  walked-other (has_shifted h x n) = has_shifted h x n
+  walked-other (has_none h n p m) = has_none h n p m
+  walked-other (has_later h x p m) = has_later h x p m
+  walked-other (has_shifted h x n p) = has_shifted h x n p
   walked-other (is_before b) = other-before b
   walked-other (is_begun b) = other-begun b
+  walked-other (is_progressed b) =
+      is_progressed (progressed-other stream at middle rest payload code old new all begins kind parts o b)
   walked-other (is_sampled b) = other-sampled b
 
 -- ---- a frame header
@@ -150,48 +157,68 @@ module _ (stream at middle rest payload : List ℕ) (code : ℕ) (old new : Walk
       let h = headed b.after at middle rest payload code b.said b.segments begins parts f t.read stream b.before
       b.starts in
       let said = said_after b.said (Header (number_of f.process) (header_of f)) in
-      ⊎_elim (λ (p : HasSequentialPicture (number_of f.process) (header_of f)). is_begun (record {
+      let number = number_of f.process in
+      let known = subst (λ (o : Option Frame). Knows new.tables o said) (sym t.is)
+      (knows-header b.after at middle rest payload code b.said b.segments begins parts f t.read old.tables
+      new.tables t.tables (subst (λ (o : Option Frame). Knows old.tables o b.said) t.first b.known)) in
+      let unsent = unsent-all f.components.items t.read.unsent in
+      let header = after-header b.after at middle rest payload code b.said b.segments begins parts f t.read b.unsaid in
+      ⊎_elim (λ (p : HasSequentialPicture number (header_of f)). is_begun (record {
         header = h;
         said = said;
         frame = f;
         part = part-headed b.after rest said (written_frame f) (has_scans f)
-            (after-header b.after at middle rest payload code b.said b.segments begins parts f t.read b.unsaid p)
-            (sent-count f) (unsent-all f.components.items t.read.unsent);
-        known = subst (λ (o : Option Frame). Knows new.tables o said) (sym t.is)
-            (knows-header b.after at middle rest payload code b.said b.segments begins parts f t.read old.tables
-            new.tables t.tables (subst (λ (o : Option Frame). Knows old.tables o b.said) t.first b.known));
+            (header (let low = p.sequential in omega (arith, low)) p.picture) (sent-count f) unsent;
+        known = known;
         is = t.is;
         pictured = record { made = t.read.made; has = p };
         was_said = refl;
+        unprogressive = λ q. (let few = p.sequential in let two = q.progressive in omega (arith, few, two));
         unsampled = λ q. (let few = p.sequential in let three = q.lossless in omega (arith, few, three));
-      })) (λ (n : HasSequentialPicture (number_of f.process) (header_of f) → ⊥).
-      ⊎_elim (λ (q : HasSamples (number_of f.process) (header_of f)). is_sampled (record {
+      })) (λ (n : HasSequentialPicture number (header_of f) → ⊥).
+      ⊎_elim (λ (p : HasProgressivePicture number (header_of f)).
+      let segments = header (let two = p.progressive in omega (arith, two)) p.picture in
+      is_progressed (record {
+        header = h;
+        frame = f;
+        is = t.is;
+        pictured = record { made = t.read.made; has = p };
+        so_far = λ narrow. comes_on (record {
+          said = said;
+          ends = segments-front nothing_said b.after segments;
+          part = progress-headed b.after rest said f segments t.read.unsent (sent-count f) unsent;
+          known = known;
+          was_said = refl;
+        });
+        unpictured = n;
+        unsampled = λ q. (let two = p.progressive in let three = q.lossless in omega (arith, two, three));
+      })) (λ (u : HasProgressivePicture number (header_of f) → ⊥).
+      ⊎_elim (λ (q : HasSamples number (header_of f)). is_sampled (record {
         header = h;
         said = said;
         frame = f;
-        part = samples-headed b.after at rest b.said (has_scans f) begins.fill (number_of f.process) (header_of f)
+        part = samples-headed b.after at rest b.said (has_scans f) begins.fill number (header_of f)
             b.segments b.unsaid ((b.unsaid, t.read.made.legal), inr q) q.lossless
-            (segment-bytes at middle rest payload code begins parts (192 + number_of f.process)
-            (frame_payload (header_of f)) (sym t.read.marked) (sym t.read.are))
-            (unsent-all f.components.items t.read.unsent);
-        known = subst (λ (o : Option Frame). Knows new.tables o said) (sym t.is)
-            (knows-header b.after at middle rest payload code b.said b.segments begins parts f t.read old.tables
-            new.tables t.tables (subst (λ (o : Option Frame). Knows old.tables o b.said) t.first b.known));
+            (segment-bytes at middle rest payload code begins parts (192 + number)
+            (frame_payload (header_of f)) (sym t.read.marked) (sym t.read.are)) unsent;
+        known = known;
         is = t.is;
         sampled = record { made = t.read.made; has = q };
         was_said = refl;
         unpictured = n;
-      })) (λ (m : HasSamples (number_of f.process) (header_of f) → ⊥). has_none h n m)
-      (samples-or-not (number_of f.process) (header_of f)))
-      (picture-or-not (number_of f.process) (header_of f))
+        unprogressive = u;
+      })) (λ (m : HasSamples number (header_of f) → ⊥). has_none h n u m)
+      (samples-or-not number (header_of f))) (progressive-or-not number (header_of f)))
+      (picture-or-not number (header_of f))
 
   walked-frame : Walked stream at old → Walked stream rest new
   walked-frame (with_adobe x) = with_adobe x
-  walked-frame (has_none h n m) = has_none h n m
-  walked-frame (has_later h x m) = has_later h x m
-  walked-frame (has_shifted h x n) = has_shifted h x n
+  walked-frame (has_none h n p m) = has_none h n p m
+  walked-frame (has_later h x p m) = has_later h x p m
+  walked-frame (has_shifted h x n p) = has_shifted h x n p
   walked-frame (is_before b) = framed b
   walked-frame (is_begun b) = absurd (none-some b.frame (sym t.first ∙ b.is))
+  walked-frame (is_progressed b) = absurd (none-some b.frame (sym t.first ∙ b.is))
   walked-frame (is_sampled b) = absurd (none-some b.frame (sym t.first ∙ b.is))
 
 -- ---- a scan
@@ -233,6 +260,7 @@ module _ (stream at middle start rest payload : List ℕ) (old new : Walk)
         is = t.is;
         pictured = picture-same r.same (picture-same head.same pictured);
         was_said = was ∙ ap (λ (w : WrittenFrame). Some w) (sym (same-written last_same));
+        unprogressive = b.unprogressive;
         unsampled = b.unsampled;
       })
 
@@ -269,20 +297,23 @@ module _ (stream at middle start rest payload : List ℕ) (old new : Walk)
               sampled = sampled-same r.same (sampled-same head.same sampled);
               was_said = was ∙ ap (λ (w : WrittenFrame). Some w) (sym (same-written last_same));
               unpictured = b.unpictured;
+              unprogressive = b.unprogressive;
             })
         | inr ne ↦ has_shifted b.header
             (shifted-scan b.header.after at start rest payload begins.fill old.tables f r.between r.scan b.said
             sampled.made sampled.has.lossless r.sized head r.samples known.codes known.interval was bytes part
-            (omega (arith, ne))) b.unpictured
+            (omega (arith, ne))) b.unpictured b.unprogressive
       ]
 
   walked-scan : Walked stream at old → Walked stream rest new
   walked-scan (with_adobe x) = with_adobe x
-  walked-scan (has_none h n m) = has_none h n m
-  walked-scan (has_later h x m) = has_later h x m
-  walked-scan (has_shifted h x n) = has_shifted h x n
+  walked-scan (has_none h n p m) = has_none h n p m
+  walked-scan (has_later h x p m) = has_later h x p m
+  walked-scan (has_shifted h x n p) = has_shifted h x n p
   walked-scan (is_before b) = absurd (none-some t.frame (sym b.unframed ∙ t.was))
   walked-scan (is_begun b) = scanned b
+  walked-scan (is_progressed b) =
+      is_progressed (progressed-scan stream at middle start rest payload old new begins parts t b)
   walked-scan (is_sampled b) = scanned-samples b
 
 -- ---- from the start to the end
@@ -321,12 +352,28 @@ walked-more stream at middle rest code old new all begins (of_scan payload start
 walked-whole : (stream at : List ℕ) (w : Walk) → BeginsMarker 217 at [] → Finishes w → Walked stream at w
     → IsExact stream
 walked-whole stream at w begins f (with_adobe x) = inr x
-walked-whole stream at w begins f (has_none h n m) =
-    inl (record { headed = h; written = λ p. absurd (n p); samples = λ q. absurd (m q) })
-walked-whole stream at w begins f (has_later h x m) =
-    inl (record { headed = h; written = λ p. inr x; samples = λ q. absurd (m q) })
-walked-whole stream at w begins f (has_shifted h x n) =
-    inl (record { headed = h; written = λ p. absurd (n p); samples = λ q. inr x })
+walked-whole stream at w begins f (has_none h n p m) =
+    inl (record {
+      headed = h;
+      written = λ s. absurd (n s);
+      progressive = λ s. absurd (p s);
+      samples = λ q. absurd (m q);
+    })
+walked-whole stream at w begins f (has_later h x p m) =
+    inl (record {
+      headed = h;
+      written = λ s. inr x;
+      progressive = λ s. absurd (p s);
+      samples = λ q. absurd (m q);
+    })
+walked-whole stream at w begins f (has_shifted h x n p) =
+    inl (record {
+      headed = h;
+      written = λ s. absurd (n s);
+      progressive = λ s. absurd (p s);
+      samples = λ q. inr x;
+    })
+walked-whole stream at w begins f (is_progressed b) = progressed-end stream at w begins f b
 walked-whole stream at w begins f (is_sampled b) =
     let same = same-frame w.frame f.frame b.frame f.is b.is in
     let all = sent-all b.frame.components.items
@@ -334,6 +381,7 @@ walked-whole stream at w begins f (is_sampled b) =
     inl (record {
       headed = b.header;
       written = λ p. absurd (b.unpictured p);
+      progressive = λ p. absurd (b.unprogressive p);
       samples = λ q. inl (samples-closed b.header.after at b.said (written_frame b.frame) (has_scans b.frame) begins.fill
           b.part (sent-count b.frame) all b.was_said begins.parts);
     })
@@ -348,6 +396,7 @@ walked-whole stream at w begins f (is_begun b) =
       headed = b.header;
       written = λ p. inl (part-closed b.header.after at b.said (written_frame b.frame) (has_scans b.frame) begins.fill
           b.part (sent-count b.frame) (omega (arith, count, some)) all b.was_said begins.parts);
+      progressive = λ p. absurd (b.unprogressive p);
       samples = λ q. absurd (b.unsampled q);
     })
 

@@ -1,7 +1,8 @@
 -- What a strict verdict says of a stream (T.81, B.2.1).
 use Rattle.std.specs.Prelude.{◌≡◌, ◌⊎◌, ◌+◌, ◌≤◌, ◌<◌, ◌∷◌, ◌++◌, [], ℕ, List, slice_index}
-use Rattle.std.specs.Prelude.{true}
+use Rattle.std.specs.Prelude.{Some, true}
 use Rattle.jpeg_bits.specs.Written.{marker}
+use Rattle.jpeg_segments.specs.Frame.{Frame}
 use Rattle.jpeg_segments.specs.ScanHeaders.{ScanHeader, scan_payload}
 use Rattle.jpeg_segments.specs.WrittenSegments.{FrameHeader, Segment, frame_payload, is_known}
 use Rattle.jpeg_segments.specs.WrittenSegments.{marker_code, payload_of, with_length}
@@ -9,6 +10,7 @@ use Rattle.jpeg_meaning.specs.Found.{Said, nothing_said}
 use Rattle.jpeg_meaning.specs.AcceptedFrames.{HasPicture, HasSamples}
 use Rattle.jpeg_meaning.specs.Levels.{Is8Bit, Levels, nothing_sent}
 use Rattle.jpeg_meaning.specs.SaidSegments.{Stands, said_after}
+use Rattle.jpeg_meaning.specs.WholeImages.{AllComplete}
 use Rattle.jpeg_meaning.specs.WrittenImages.{MayStandInImage, WritesImage, WritesPart}
 use Rattle.jpeg_meaning.specs.WrittenLossless.{IsLossless, Samples, SendsSamples, WritesSamples}
 use Rattle.jpeg_meaning.specs.WrittenScans.{Coefficients}
@@ -74,10 +76,32 @@ pub record HasLaterTables (after : List ℕ) : Type 0 where
       nothing_said (λ k. nothing_sent) after said sent
   pub scanned : said.scanned ≡ true
 
+-- A stream that a writer emits for the coefficients of an image, with all bits of all of them.
+pub record IsWhollyWritten (bytes : List ℕ) : Type 0 where
+  pub image : IsWritten bytes
+  pub frame : Frame
+  pub framed : image.final.frame ≡ Some frame
+  pub complete : AllComplete frame image.last
+
 -- A sequential frame that has a picture, and so 8 bits a sample.
 pub record HasSequentialPicture (number : ℕ) (h : FrameHeader) : Type 0 where
   pub sequential : number ≤ 1
   pub picture : HasPicture h
+
+-- A progressive frame that has a picture, and so 8 bits a sample.
+pub record HasProgressivePicture (number : ℕ) (h : FrameHeader) : Type 0 where
+  pub progressive : number ≡ 2
+  pub picture : HasPicture h
+
+-- Somewhere stands a scan whose level Al is above 7: T.81 has levels up to 13, and writers here
+-- send no bits of samples of 8 bits above that. These bytes follow SOI.
+pub record HasDeepScan (after : List ℕ) : Type 0 where
+  pub front : List ℕ
+  pub fill : ℕ
+  pub header : ScanHeader
+  pub rest : List ℕ
+  pub are : after ≡ front ++ marker fill 218 (with_length (scan_payload header) ++ rest)
+  pub deep : 7 < header.low
 
 -- A stream that a writer emits for the samples of a lossless image.
 pub record IsWrittenForSamples (bytes : List ℕ) : Type 0 where
@@ -108,14 +132,18 @@ pub record HasShiftedScan (after : List ℕ) : Type 0 where
       (marker fill 218 (with_length (scan_payload header) ++ rest)) after said sent
   pub shifted : 1 ≤ header.low
 
--- A stream with this frame header is written for some coefficients, where the frame is sequential
--- and has a picture, unless it defines quantization tables after a scan; and for some samples,
--- where the frame is lossless and has samples, unless a scan has a point transform: without the
--- fill bytes that may stand before SOI.
+-- A stream with this frame header is written for some coefficients and all their bits, where the
+-- frame is sequential or progressive and has a picture, unless it defines quantization tables after
+-- a scan, or a scan of a progressive frame has a level Al above 7; and for some samples, where the
+-- frame is lossless and has samples, unless a scan has a point transform: without the fill bytes
+-- that may stand before SOI.
 pub record IsExactFor (bytes : List ℕ) : Type 0 where
   pub headed : HasHeader bytes
   pub written : HasSequentialPicture headed.number headed.header
-      → IsWritten (255 ∷ 216 ∷ headed.after) ⊎ HasLaterTables headed.after
+      → IsWhollyWritten (255 ∷ 216 ∷ headed.after) ⊎ HasLaterTables headed.after
+  pub progressive : HasProgressivePicture headed.number headed.header
+      → IsWhollyWritten (255 ∷ 216 ∷ headed.after)
+      ⊎ (HasLaterTables headed.after ⊎ HasDeepScan headed.after)
   pub samples : HasSamples headed.number headed.header
       → IsWrittenForSamples (255 ∷ 216 ∷ headed.after) ⊎ HasShiftedScan headed.after
 

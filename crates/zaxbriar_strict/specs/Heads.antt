@@ -1,13 +1,14 @@
 -- Frame and scan headers that were read, in the words of a writer (T.81, B.2.2 and B.2.3).
-use Rattle.std.specs.Prelude.{◌≡◌, ◌≢◌, ◌+◌, ◌≤◌, ℕ, Bool, true, false, List, [], ◌∷◌, map, take}
-use Rattle.std.specs.Prelude.{◌==◌, Option, get_or, set}
+use Rattle.std.specs.Prelude.{◌≡◌, ◌≢◌, ◌+◌, ◌≤◌, ◌<◌, ℕ, Bool, true, false, List, [], ◌∷◌, map}
+use Rattle.std.specs.Prelude.{◌==◌, Option, None, get_or, replicate, set, take}
 use Rattle.std.specs.List.{AllByRecursion}
 use Rattle.jpeg_bits.specs.Passes.{Pass}
 use Rattle.jpeg_segments.specs.Frame.{Factors, greatest, Frame as WrittenFrame}
 use Rattle.jpeg_segments.specs.ScanHeader.{Selector}
-use Rattle.jpeg_segments.specs.ScanHeaders.{IsScan, ScanHeader, scan_payload}
+use Rattle.jpeg_segments.specs.ScanHeaders.{AreChoices, IsScan, ScanHeader, scan_payload}
 use Rattle.jpeg_segments.specs.WrittenSegments.{FrameHeader, IsFrameHeader, frame_payload}
 use Rattle.jpeg_segments.specs.WrittenSegments.{frame_written}
+use Rattle.zaxbriar_strict.specs.Changes.{kept_of}
 use Rattle.zaxbriar_strict.specs.Progress.{AreNoted}
 use Rattle.zaxbriar_strict.specs.Sent.{IsBand}
 use Rattle.zaxbriar_strict.specs.declared.frame.Component.{Component}
@@ -65,13 +66,19 @@ pub record IsMade (f : Frame) : Type 0 where
   pub across : f.most_across ≡ greatest (λ c. c.horizontal) (header_of f).components
   pub down : f.most_down ≡ greatest (λ c. c.vertical) (header_of f).components
 
+-- No scan of a component was read yet.
+pub record IsUnread (c : Component) : Type 0 where
+  pub unsent : c.has_scan ≡ false
+  pub levels : c.lowest ≡ replicate 64 None
+  pub blocks : c.rows.items ≡ []
+
 -- The bytes of a segment SOFn after its length are those of a frame header, and no scan of it was
 -- read yet.
 pub record ReadsFrame (code : ℕ) (bytes : List ℕ) (f : Frame) : Type 0 where
   pub marked : code ≡ 192 + number_of f.process
   pub are : bytes ≡ frame_payload (header_of f)
   pub made : IsMade f
-  pub unsent : AllByRecursion (λ c. c.has_scan ≡ false) f.components.items
+  pub unsent : AllByRecursion IsUnread f.components.items
 
 -- A frame whose header is the same: scans may have been read between.
 pub record IsSameFrame (old new : Frame) : Type 0 where
@@ -143,20 +150,33 @@ pub record SendsPart (s : Scan) : Type 0 where
   pub banded : IsBand (pass_in s)
   pub last : s.last ≤ 63
   pub high : s.high ≢ 0 → s.high ≡ s.low + 1
+  pub high_most : s.high ≤ 13
   pub low : s.low ≤ 13
   pub alone : s.first ≢ 0 → s.count ≤ 1
 
--- The bytes of a segment SOS after its length are those of a scan header, which in a sequential or
--- a lossless frame keeps its rules, and in a sequential one sends all bits of all coefficients.
+-- The components of a scan stand in the order of the frame, and their tables at destinations that
+-- it has.
+abbrev pub HaveChoices : Frame → Scan → Type 0
+HaveChoices f s =
+    AreChoices (written_frame f) 0 (map (choice_of (header_of f).components) (members_of s))
+
+-- The bytes of a segment SOS after its length are those of a scan header, which keeps its rules, in
+-- a progressive frame if Al is below the sample precision, and in a sequential one sends all bits
+-- of all coefficients.
 pub record ReadsHeader (bytes : List ℕ) (s : Scan) (old new : Frame) : Type 0 where
   pub are : bytes ≡ scan_payload (scan_header_of old s)
   pub counted : s.count ≤ 4
+  pub some : 1 ≤ s.count
+  pub choices : HaveChoices old s
   pub legal : IsSentOnce old → IsScan (written_frame old) (scan_header_of old s)
+  pub legal_part : is_progressive_process old.process ≡ true → s.low < old.precision
+      → IsScan (written_frame old) (scan_header_of old s)
   pub last : IsSequential old → s.last ≡ 63
   pub part : is_progressive_process old.process ≡ true → SendsPart s
   pub noted : is_progressive_process old.process ≡ true
       → AreNoted (pass_in s) (members_of s) (lowest_of old) (lowest_of new)
   pub same : IsSameFrame old new
+  pub kept : map kept_of new.components.items ≡ map kept_of old.components.items
   -- none of its components has a scan before, and all have one after it
   pub unsent : IsSentOnce old → AreUnsent (has_scans old) (members_of s)
   pub sent : has_scans new ≡ sent_with (members_of s) (has_scans old)

@@ -5,6 +5,7 @@ use Rattle.std.specs.List.{AllByRecursion}
 use Rattle.jpeg_segments.specs.HuffmanTables.{greatest_destination}
 use Rattle.jpeg_segments.specs.ScanHeader.{Selector, index_of, is_mcu}
 use Rattle.jpeg_segments.specs.ScanHeaders.{AreChoices, choice_bytes, scan_payload}
+use Rattle.zaxbriar_strict.specs.Changes.{kept_of}
 use Rattle.zaxbriar_strict.specs.Heads.{AreUnsent, IsLosslessFrame, IsSameFrame, IsSentOnce}
 use Rattle.zaxbriar_strict.specs.Heads.{IsSequential, choice_of, has_scans}
 use Rattle.zaxbriar_strict.specs.Heads.{header_of, sent_with}
@@ -84,3 +85,4 @@ pub record NotesScan (s : Scan) (old new : Frame) : Type 0 where
   pub same : IsSameFrame old new
   pub unsent : IsSentOnce old → AreUnsent (has_scans old) (members_of s)
   pub sent : has_scans new ≡ sent_with (members_of s) (has_scans old)
+  pub kept : map kept_of new.components.items ≡ map kept_of old.components.items

@@ -1,7 +1,7 @@
 -- Blocks of a scan as they are read, MCU by MCU and interval by interval, in the words of a writer
 -- (T.81, E.1.4 and F.1.2).
 use Rattle.std.specs.Prelude.{◌≡◌, ◌≢◌, ◌+◌, ◌*◌, ◌≤◌, ◌%◌, ◌++◌, [], ℕ, zero, suc, Bool, true}
-use Rattle.std.specs.Prelude.{false, List, ℤ, length, map, zip}
+use Rattle.std.specs.Prelude.{false, List, length, map, zip}
 use Rattle.std.specs.List.{AllByRecursion}
 use Rattle.jpeg_bits.specs.Intervals.{first_group, other_groups}
 use Rattle.jpeg_bits.specs.Passes.{Block, Pass, Via, predictors_at_start}
@@ -12,6 +12,7 @@ use Rattle.zaxbriar_strict.specs.Blocks.{WritesTurns}
 use Rattle.zaxbriar_strict.specs.Changes.{AreMade, Change, IsGood, IsNext, Kept, Place, sent_by}
 use Rattle.zaxbriar_strict.specs.Data.{Data, Reads, data_at}
 use Rattle.zaxbriar_strict.specs.Loaded.{data_of}
+use Rattle.zaxbriar_strict.specs.Sent.{AllInner}
 use Rattle.zaxbriar_strict.specs.declared.intervals.Intervals.{Intervals}
 use Rattle.zaxbriar_strict.specs.declared.transform.Past.{Past}
 
@@ -36,10 +37,13 @@ AreGood false p cs = Unit {0}
 AreGood true p cs = AllByRecursion (IsGood p) cs
 
 -- Blocks were changed in this pass: of a frame whose blocks are kept (a progressive one), from what
--- is kept before to what is kept after, or else of one whose blocks are 8-bit samples'.
+-- is kept before to what is kept after, or else of one whose blocks are 8-bit samples'. A number at
+-- an end of the range of 16 bits is noted.
 pub record AreChanged (is_kept : Bool) (p : Pass) (cs : List Change) (from to : Kept) : Type 0 where
   pub made : is_kept ≡ true → AreMade cs from to
   pub next : is_kept ≡ true → AreGood is_kept p cs → AllByRecursion (IsNext p) cs
+  pub inner : is_kept ≡ true → to.is_wide ≡ false
+      → (from.is_wide ≡ false) × AllByRecursion (λ c. AllInner c.new) cs
   pub in_range : is_kept ≡ false → AllByRecursion (λ c. Is8Bit (sent_by p c)) cs
 
 -- the turns of such blocks, by the ways in which they are coded

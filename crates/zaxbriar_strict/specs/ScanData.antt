@@ -1,16 +1,16 @@
 -- A scan of some components of a frame by DCT, in the words of a writer (T.81, A.2, F.1 and G.1).
-use Rattle.std.specs.Prelude.{◌≡◌, ◌≤◌, ◌<◌, ◌*◌, ◌==◌, ◌++◌, [], ◌∷◌, ℕ, Bool, true, List}
-use Rattle.std.specs.Prelude.{Option, None, Some, length, map, nat_lt, slice_get}
+use Rattle.std.specs.Prelude.{◌≡◌, ◌≤◌, ◌<◌, ◌*◌, ◌/◌, ◌%◌, ◌==◌, ◌++◌, [], ◌∷◌, ℕ, Bool, true}
+use Rattle.std.specs.Prelude.{List, Option, None, Some, length, map, nat_lt, slice_get}
 use Rattle.std.specs.Prelude.{slice_index_or}
 use Rattle.std.specs.List.{AllByRecursion}
 use Rattle.jpeg_bits.specs.Passes.{Block, Pass, Via, whole_pass}
 use Rattle.jpeg_bits.specs.declared.huffman.codes.HuffmanTableClass.TheVariants.{AC, DC}
 use Rattle.jpeg_segments.specs.Frame.{Component, Frame as WrittenFrame}
-use Rattle.jpeg_meaning.specs.Order.{grid_of, mcu_size, spots_of}
+use Rattle.jpeg_meaning.specs.Order.{Spot, grid_of, mcu_size, spots_of}
 use Rattle.jpeg_meaning.specs.Scans.{via_at}
 use Rattle.jpeg_meaning.specs.ScanSegments.{Coding, components_of, vias_from}
 use Rattle.jpeg_meaning.specs.WrittenScans.{IsTableAt}
-use Rattle.zaxbriar_strict.specs.Changes.{Change, Kept, kept_in}
+use Rattle.zaxbriar_strict.specs.Changes.{Change, Kept, Place, kept_in}
 use Rattle.zaxbriar_strict.specs.Heads.{IsMade, IsSequential, is_progressive_process, members_of}
 use Rattle.zaxbriar_strict.specs.Heads.{SendsPart, pass_in, written_frame}
 use Rattle.zaxbriar_strict.specs.Installed.{codes_of, steps_of}
@@ -53,6 +53,22 @@ abbrev pub ways_of : WrittenFrame → List Coding → List Via
 ways_of frame codings =
     map (λ s. via_at (vias_from 0 codings) s.slot) (spots_of frame (components_of codings))
 
+-- ---- where its blocks stand
+
+-- the elements of two lists are so, one by one
+unfoldable pub AreAlike : {A B : Type 0} → (A → B → Type 0) → List A → List B → Type 0
+AreAlike P [] [] = Unit {0}
+AreAlike P (x ∷ xs) (y ∷ ys) = P x y × AreAlike P xs ys
+AreAlike P _ _ = ⊥
+
+-- The block at a spot of a scan stands at this place of the frame.
+pub record IsAtSpot (codings : List Coding) (s : Spot) (q : Place) : Type 0 where
+  pub coding : Coding
+  pub here : slice_get codings s.slot ≡ Some coding
+  pub index : coding.index ≡ q.index
+  pub row : s.index / coding.component.blocks_wide ≡ q.row
+  pub column : s.index % coding.component.blocks_wide ≡ q.column
+
 -- ---- its data
 
 -- The bytes of the intervals of a scan, up to these others.
@@ -64,12 +80,14 @@ pub record AreGroups (p : Pass) (every : ℕ) (turns : List (Via × Block)) (byt
 
 -- The data of a scan, and what follows them: all its blocks, of 8-bit samples, by the tables that
 -- are installed at the destinations of its components, and how they change what is kept, if blocks
--- are.
+-- are, at the places of the scan's spots.
 pub record ReadsData (is_kept : Bool) (p : Pass) (t : Tables) (frame : WrittenFrame)
     (ms : List Member) (from to : Kept) (bytes rest : List ℕ) : Type 0 where
   pub installed : AreInstalled p t frame ms
   pub changes : List Change
   pub counted : length changes ≡ length (ways_of frame installed.codings)
+  pub placed : AreAlike (IsAtSpot installed.codings)
+      (spots_of frame (components_of installed.codings)) (map (λ c. c.place) changes)
   pub changed : AreChanged is_kept p changes from to
   pub coded : AreGood is_kept p changes
       → AreGroups p (t.interval * mcu_size (components_of installed.codings))

@@ -1,5 +1,5 @@
 -- What a scan of a progressive frame sends of a block, in the words of a writer (T.81, G.1.2).
-use Rattle.std.specs.Prelude.{◌≡◌, ◌≢◌, ◌≤◌, ℕ, suc, ◌^◌, ◌≤◌, ◌∷◌, Bool, true, false, not, List}
+use Rattle.std.specs.Prelude.{◌≡◌, ◌≢◌, ◌≤◌, ℕ, suc, ◌^◌, ◌≤◌, ◌∷◌, true, false, not, List}
 use Rattle.std.specs.Prelude.{length, drop, map, ℤ, pos, ◌*ℤ◌, if◌then◌else◌}
 use Rattle.std.specs.List.{AllByRecursion}
 use Rattle.jpeg_bits.specs.BlockView.{dc_in}

@@ -1,5 +1,5 @@
 -- What a scan of a progressive frame sends of a block, and what the block was before (T.81, G.1.2).
-use Rattle.std.specs.Prelude.{◌≡◌, ◌∷◌, [], ℕ, List, ℤ, set}
+use Rattle.std.specs.Prelude.{◌∷◌, [], ℕ, List, ℤ}
 use Rattle.jpeg_bits.specs.BlockView.{dc_in}
 use Rattle.jpeg_bits.specs.Passes.{Pass, Via}
 use Rattle.zaxbriar_strict.specs.Bands.{IsInner}

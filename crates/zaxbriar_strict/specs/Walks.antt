@@ -1,13 +1,14 @@
 -- What a walk over a stream takes of its segments (T.81, B.2.1).
 use Rattle.std.specs.Prelude.{◌≡◌, ◌≢◌, ◌⊎◌, ◌≤◌, ◌<◌, ◌++◌, ℕ, true, List, length, replicate}
-use Rattle.std.specs.Prelude.{None, Some}
+use Rattle.std.specs.Prelude.{None, Some, false}
 use Rattle.std.specs.List.{AllByRecursion}
 use Rattle.jpeg_segments.specs.HuffmanTables.{no_tables}
 use Rattle.jpeg_segments.specs.WrittenSegments.{u16_bytes, with_length}
+use Rattle.zaxbriar_strict.specs.Changes.{IsComponentInRange}
 use Rattle.zaxbriar_strict.specs.ScanData.{ReadsIfEight}
 use Rattle.zaxbriar_strict.specs.ScanSamples.{ReadsIfLossless}
 use Rattle.zaxbriar_strict.specs.Heads.{IsMade, IsSameFrame, ReadsFrame, ReadsHeader}
-use Rattle.zaxbriar_strict.specs.Heads.{has_scans}
+use Rattle.zaxbriar_strict.specs.Heads.{has_scans, is_progressive_process, lowest_of}
 use Rattle.zaxbriar_strict.specs.Installed.{InstallsCodes, InstallsSteps, codes_of, steps_of}
 use Rattle.zaxbriar_strict.specs.declared.frame.Frame.{Frame}
 use Rattle.zaxbriar_strict.specs.declared.scan.Scan.{Scan}
@@ -69,6 +70,7 @@ pub record ReadsScan (header start rest : List ℕ) (t : Tables) (old new : Fram
   pub samples : ReadsIfLossless t between scan start rest
   pub same : IsSameFrame between new
   pub sent : has_scans new ≡ has_scans between
+  pub lowest : lowest_of new ≡ lowest_of between
 
 -- A scan, where there was a frame.
 pub record WalksScan (header start rest : List ℕ) (old new : Walk) : Type 0 where
@@ -91,6 +93,13 @@ pub data WalksSegment (code : ℕ) (bytes rest : List ℕ) (old new : Walk) : Ty
 
 -- ---- the end
 
+-- What holds at EOI of a progressive frame: the blocks of samples of 8 bits are in range, no number
+-- was beyond 16 bits, and all bits of all coefficients were sent.
+pub record FinishesBlocks (f : Frame) : Type 0 where
+  pub in_range : f.precision ≡ 8 → AllByRecursion IsComponentInRange f.components.items
+  pub inner : AllByRecursion (λ c. c.is_wide ≡ false) f.components.items
+  pub whole : AllByRecursion (λ c. AllByRecursion (λ l. l ≡ Some 0) c.lowest) f.components.items
+
 -- What holds at EOI: there is a frame, each of its components has a scan, and no tables stand after
 -- the last one.
 pub record Finishes (w : Walk) : Type 0 where
@@ -98,3 +107,4 @@ pub record Finishes (w : Walk) : Type 0 where
   pub is : w.frame ≡ Some frame
   pub due : w.is_scan_due ≡ true → w.scans ≡ 0
   pub sent : AllByRecursion (λ c. c.has_scan ≡ true) frame.components.items
+  pub blocks : is_progressive_process frame.process ≡ true → FinishesBlocks frame

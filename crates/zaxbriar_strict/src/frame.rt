@@ -5,7 +5,7 @@ ghost use Rattle.std.specs.List.{AllByRecursion, list_any};
 ghost use Rattle.jpeg_segments.specs.Frame.{ceiling, greatest, is_count, is_destination};
 ghost use Rattle.jpeg_segments.specs.Frame.{is_factor, is_lossless_number, is_precision};
 ghost use Rattle.jpeg_segments.specs.WrittenSegments.{AreComponents, factors_bytes, u16_bytes};
-ghost use Rattle.zaxbriar_strict.specs.Heads.{factors_of, number_of, IsMade, ReadsFrame};
+ghost use Rattle.zaxbriar_strict.specs.Heads.{factors_of, number_of, IsMade, IsUnread, ReadsFrame};
 ghost use Rattle.zaxbriar_strict.specs.Heads.{written_frame};
 ghost use Rattle.jpeg_meaning.specs.Levels.{Is8Bit};
 ghost use Rattle.zaxbriar_strict.specs.Bands.{block_in};
@@ -41,6 +41,9 @@ pub(crate) struct Component {
     pub(crate) lowest: [Option<u8>; 64],
     /// The blocks of a progressive frame, by rows: those that scans have reached.
     pub(crate) rows: Vec<Vec<Block>>,
+    /// Whether one of their coefficients was at an end of the range of 16 bits after a scan, where
+    /// what was sent may be beyond it.
+    pub(crate) is_wide: bool,
 }
 
 /// A frame.
@@ -84,8 +87,13 @@ fn own_parts(length: u32, factor: u8, most: u32, side: u32) -> u32
 impl Component {
     /// Checks the coefficients of a component that has a scan.
     fn is_in_range(&self, is_deep: bool) -> bool
-        ensures { IsTrue result → is_deep ≡ false → IsComponentInRange self.now }
+        ensures eight { IsTrue result → is_deep ≡ false → IsComponentInRange self.now }
+        ensures inner { IsTrue result → self.now.is_wide ≡ false }
     {
+        // (Further bits don't lead back from there to a coefficient of samples.)
+        if self.is_wide {
+            return false;
+        }
         match &self.steps {
             Some(steps) => are_rows_in_range(&self.rows, steps, is_deep),
             None => false,
@@ -173,8 +181,10 @@ impl Frame {
     /// Checks the coefficients of a progressive frame, each component of which has a scan, against
     /// the ranges of samples (A.3.3).
     pub(crate) fn is_in_range(&self) -> bool
-        ensures { IsTrue result → self.now.precision ≡ 8
+        ensures eight { IsTrue result → self.now.precision ≡ 8
             → AllByRecursion IsComponentInRange self.now.components.items }
+        ensures inner { IsTrue result
+            → AllByRecursion (λ c. c.is_wide ≡ false) self.now.components.items }
     {
         let is_deep = self.is_deep();
         for component in self.components.iter() {
@@ -239,7 +249,7 @@ fn take_component(alloc: Global, process: Process, part: &mut Cursor<'_>) -> Res
     ensures down { IfOk result (λ c. is_factor c.down ≡ true) }
     ensures placed { IfOk result (λ c.
         is_destination (is_lossless_number (number_of process)) c.table ≡ true) }
-    ensures unsent { IfOk result (λ c. c.has_scan ≡ false) }
+    ensures unsent { IfOk result (λ c. IsUnread c) }
 {
     let [identifier, factors, table, rest @ ..] = part.rest else {
         return Err(Rule::FrameLength);
@@ -261,6 +271,7 @@ fn take_component(alloc: Global, process: Process, part: &mut Cursor<'_>) -> Res
         steps: None,
         lowest: [None; 64],
         rows: Vec::new(alloc),
+        is_wide: false,
     })
 }
 
@@ -284,7 +295,7 @@ fn take_components(
         part.entry.rest.now ≡ flat_map factors_bytes (map factors_of v.items)) }
     ensures legal { IfOk result (λ v.
         AreComponents (number_of process) [] (map factors_of v.items)) }
-    ensures unsent { IfOk result (λ v. AllByRecursion (λ c. c.has_scan ≡ false) v.items) }
+    ensures unsent { IfOk result (λ v. AllByRecursion IsUnread v.items) }
 {
     let mut components = Vec::with_capacity(alloc, usize::from(count))?;
     let mut rest = part;

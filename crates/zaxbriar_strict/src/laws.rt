@@ -5,7 +5,8 @@ ghost use Rattle.jpeg_meaning.specs.ArrayPictures.{meaning_of_array};
 ghost use Rattle.jpeg_meaning.specs.Stream.{meaning};
 ghost use Rattle.jpeg_meaning.specs.WholeImages.{whole_meaning};
 ghost use Rattle.jpeg_meaning.specs.declared.settings.Settings.{Settings};
-ghost use Rattle.zaxbriar_strict.specs.Exact.{HasHeader, HasLaterTables, HasOtherAdobe};
+ghost use Rattle.zaxbriar_strict.specs.Exact.{HasDeepScan, HasHeader, HasLaterTables};
+ghost use Rattle.zaxbriar_strict.specs.Exact.{HasOtherAdobe, HasProgressivePicture};
 ghost use Rattle.zaxbriar_strict.specs.Exact.{HasSequentialPicture, HasShiftedScan, IsExact};
 ghost use Rattle.zaxbriar_strict.specs.Exact.{IsWritten, IsWrittenForSamples};
 
@@ -26,6 +27,21 @@ pub fn strict_streams_mean_their_pictures()
         (headed : HasHeader bytes)
         × (HasSequentialPicture headed.number headed.header →
         (HasLaterTables headed.after → ⊥) →
+        (image : IsWritten (255 ∷ 216 ∷ headed.after))
+        × ((settings : Settings) (rest : List ℕ) →
+        meaning settings (255 ∷ 216 ∷ (headed.after ++ rest))
+        ≡ whole_meaning settings image.final image.array rest)) }
+{}
+
+/// A progressive stream of which `judge` says that it is strict is written for coefficients, all of
+/// whose bits its scans send, and means the picture of those coefficients: without the fill bytes
+/// that may stand before SOI, and if no Adobe segment gives an unknown transform, its frame has a
+/// picture, no quantization table is defined after a scan, and no scan has a level Al above 7.
+pub fn strict_progressive_streams_mean_their_pictures()
+    ensures { (bytes : List ℕ) → IsExact bytes → (HasOtherAdobe bytes → ⊥) →
+        (headed : HasHeader bytes)
+        × (HasProgressivePicture headed.number headed.header →
+        (HasLaterTables headed.after → ⊥) → (HasDeepScan headed.after → ⊥) →
         (image : IsWritten (255 ∷ 216 ∷ headed.after))
         × ((settings : Settings) (rest : List ℕ) →
         meaning settings (255 ∷ 216 ∷ (headed.after ++ rest))

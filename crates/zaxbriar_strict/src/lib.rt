@@ -3,9 +3,10 @@
 //! This is no decoder, and shares no line of code with one: it reads a stream by the standard's
 //! clauses, takes nothing that they don't define, and makes no picture. What is read of markers, of
 //! tables, of bits and of blocks was written by the definitions of a writer, which the contracts
-//! cite; and so was a whole stream, if its frame is sequential and has a picture, and no
-//! quantization table is defined after a scan: it means the picture of its coefficients ([`laws`]).
-//! A whole lossless stream was written so for its samples, if no scan has a point transform.
+//! cite; and so was a whole stream, if its frame is sequential or progressive and has a picture, no
+//! quantization table is defined after a scan, and no scan has a level Al above 7: it means the
+//! picture of its coefficients ([`laws`]). A whole lossless stream was written so for its samples,
+//! if no scan has a point transform.
 #![tactic(auto)]
 
 ghost use Rattle.std.specs.Prelude.{◌≡◌, IfOk, length};
@@ -49,9 +50,10 @@ use std::alloc::Global;
 pub fn judge(alloc: Global, stream: &[u8], most_bytes: u64) -> Result<Verdict, Refusal>
     ensures within { IfOk result (IsWithin (length stream.now)) }
     // A stream that is strict is one that a writer emits for some coefficients, if its frame is
-    // sequential and has a picture, in one scan or several, no quantization table is defined after
-    // a scan, and no Adobe segment gives an unknown transform; or for some samples, if its frame is
-    // lossless and has samples, no scan has a point transform, and no such Adobe segment is there.
+    // sequential or progressive and has a picture, no quantization table is defined after a scan,
+    // no scan has a level Al above 7, and no Adobe segment gives an unknown transform; or for some
+    // samples, if its frame is lossless and has samples, no scan has a point transform, and no such
+    // Adobe segment is there.
     ensures exact { IfOk result (λ v. v ≡ Strict → IsExact stream.now) }
 {
     match read_stream(alloc, stream, most_bytes) {

@@ -7,6 +7,7 @@ ghost use Rattle.jpeg_meaning.specs.Levels.{Is8Bit};
 ghost use Rattle.jpeg_segments.specs.WrittenSegments.{value_bytes};
 ghost use Rattle.zaxbriar_strict.specs.Bands.{block_in, IsInner};
 ghost use Rattle.zaxbriar_strict.specs.Quantizations.{precision_of, TakesSteps};
+ghost use Rattle.zaxbriar_strict.specs.Sent.{AllInner};
 
 use crate::cursor::Cursor;
 use crate::rule::{Rule, Stop};
@@ -114,6 +115,18 @@ fn has_bits(block: &Block, is_deep: bool) -> bool
         }
     }
     true
+}
+
+/// Returns whether no coefficient is at an end of the range of 16 bits.
+pub(crate) fn is_inner(block: &Block) -> bool
+    ensures { IsTrue result → AllInner block.now }
+{
+    let mut is_inner = true;
+    // (Without an exit, so that many are compared at once.)
+    for coefficient in block {
+        is_inner &= coefficient.unsigned_abs() <= 32766;
+    }
+    is_inner
 }
 
 /// Returns whether samples of a precision of 8 bits, or else of 12, can have these coefficients.

@@ -4,6 +4,7 @@ ghost use Rattle.std.specs.Prelude.{◌+◌, ◌-◌, ◌^◌, None, get_or, len
 ghost use Rattle.std.specs.Prelude.{take, true};
 ghost use Rattle.jpeg_segments.specs.ScanHeader.{blocks_by};
 ghost use Rattle.jpeg_segments.specs.ScanHeaders.{choice_bytes};
+ghost use Rattle.zaxbriar_strict.specs.Changes.{kept_of};
 ghost use Rattle.zaxbriar_strict.specs.Heads.{factors_of, IsMade, members_of, number_of};
 ghost use Rattle.zaxbriar_strict.specs.Heads.{ReadsHeader, SendsPart, is_progressive_process};
 ghost use Rattle.zaxbriar_strict.specs.Heads.{pass_in, written_frame};
@@ -167,7 +168,7 @@ impl Scan {
     fn note_progress(&self, component: &mut Component) -> Result<(), Rule>
         ensures factors { IfOk result (λ _. factors_of component.new ≡ factors_of component.old) }
         ensures sent { IfOk result (λ _. component.new.has_scan ≡ true) }
-        ensures rows { component.new.rows ≡ component.old.rows }
+        ensures kept { kept_of component.new ≡ kept_of component.old }
         ensures noted { IfOk result (λ _. SendsPart self.now
             → NotesPass (pass_in self.now) component.old.lowest component.new.lowest) }
     {
@@ -191,6 +192,7 @@ impl Scan {
         ensures unsent { IfOk result
             (λ _. number_of process ≢ 2 → component.old.has_scan ≡ false) }
         ensures sent { IfOk result (λ _. component.new.has_scan ≡ true) }
+        ensures kept { kept_of component.new ≡ kept_of component.old }
         ensures noted { IfOk result (λ _. is_progressive_process process ≡ true
             → SendsPart self.now
             → NotesPass (pass_in self.now) component.old.lowest component.new.lowest) }

@@ -5,7 +5,7 @@ ghost use Rattle.std.specs.Prelude.{false, length, map, replicate, set, slice_ge
 ghost use Rattle.std.specs.Prelude.{IsTrue, slice_index_or, true};
 ghost use Rattle.jpeg_bits.specs.Passes.{Pass, Via};
 ghost use Rattle.jpeg_segments.specs.HuffmanTables.{class_of};
-ghost use Rattle.zaxbriar_strict.specs.Changes.{Kept, Place, block_of, kept_in, rows_of};
+ghost use Rattle.zaxbriar_strict.specs.Changes.{Kept, Place, block_of, kept_in, kept_of};
 ghost use Rattle.zaxbriar_strict.specs.Contexts.{IsContext, IsInstalled, IsWay, ReadsBlocks};
 ghost use Rattle.zaxbriar_strict.specs.Contexts.{blocks_at, blocks_in, part_places, places_at};
 ghost use Rattle.zaxbriar_strict.specs.Contexts.{row_places, unit_of, unit_places};
@@ -18,7 +18,7 @@ ghost use Rattle.zaxbriar_strict.specs.Kept.{IsKept, IsKeptComponent};
 ghost use Rattle.zaxbriar_strict.specs.Loaded.{data_of};
 ghost use Rattle.zaxbriar_strict.specs.Runs.{IsAfter, IsBefore, ReadsRun, run_in};
 ghost use Rattle.zaxbriar_strict.specs.ScanData.{AreInstalled, HasMembers, ReadsIfEight};
-ghost use Rattle.zaxbriar_strict.specs.Sent.{IsPass};
+ghost use Rattle.zaxbriar_strict.specs.Sent.{AllInner, IsPass};
 ghost use Rattle.zaxbriar_strict.specs.SentBlocks.{ReadsAcs, ReadsDc, ReadsSent};
 ghost use Rattle.zaxbriar_strict.specs.Tables.{codes_in};
 ghost use Rattle.zaxbriar_strict.specs.Whole.{IsWhole};
@@ -31,7 +31,7 @@ use crate::cursor::Cursor;
 use crate::frame::{Component, Frame, Process};
 use crate::huffman::HuffmanTable;
 use crate::intervals::Intervals;
-use crate::quantization::Block;
+use crate::quantization::{Block, is_inner};
 use crate::rule::{Rule, Stop};
 use crate::scan::{Member, Scan};
 use crate::tables::Tables;
@@ -88,6 +88,7 @@ pub(crate) fn check_codes(
 fn check_steps(tables: &Tables, component: &mut Component) -> Result<(), Rule>
     ensures kept { IsKeptComponent component.old component.new }
     ensures rows { component.new.rows ≡ component.old.rows }
+    ensures wide { component.new.is_wide ≡ component.old.is_wide }
     ensures installed { IfOk result
         (λ _. IsInstalled (slice_index_or (steps_of tables.now) component.old.table None)) }
 {
@@ -106,7 +107,7 @@ fn check_steps(tables: &Tables, component: &mut Component) -> Result<(), Rule>
 /// Checks the quantization table of a component by its place in the frame.
 fn check_steps_at(tables: &Tables, frame: &mut Frame, place: usize) -> Result<(), Rule>
     ensures kept { IsKept frame.old frame.new }
-    ensures rows { map rows_of frame.new.components.items ≡ map rows_of frame.old.components.items }
+    ensures rows { map kept_of frame.new.components.items ≡ map kept_of frame.old.components.items }
     ensures installed { IfOk result
         (λ _. (c : Component) → slice_get frame.old.components.items place ≡ Some c
         → IsInstalled (slice_index_or (steps_of tables.now) c.table None)) }
@@ -146,7 +147,7 @@ fn check_member(
     band: &Band,
 ) -> Result<bool, Rule>
     ensures kept { IsKept frame.old frame.new }
-    ensures rows { map rows_of frame.new.components.items ≡ map rows_of frame.old.components.items }
+    ensures rows { map kept_of frame.new.components.items ≡ map kept_of frame.old.components.items }
     ensures tables { IfOk result (λ _. (p : Pass) → IsMade frame.old
         → member.component < length frame.old.components.items → band.now.first ≡ p.ss
         → band.now.last ≡ p.se → member.dc ≤ 3 → member.ac ≤ 3
@@ -162,7 +163,7 @@ fn check_member(
 /// Checks the tables that a scan needs.
 fn check_tables(tables: &Tables, frame: &mut Frame, scan: &Scan, band: &Band) -> Result<(), Rule>
     ensures kept { IsKept frame.old frame.new }
-    ensures rows { map rows_of frame.new.components.items ≡ map rows_of frame.old.components.items }
+    ensures rows { map kept_of frame.new.components.items ≡ map kept_of frame.old.components.items }
     ensures tables { IfOk result (λ _. (p : Pass) → IsMade frame.old → band.now.first ≡ p.ss
         → band.now.last ≡ p.se → HasMembers frame.old scan.now
         → AreInstalled p tables.now (written_frame frame.old) (members_of scan.now)) }
@@ -240,6 +241,14 @@ fn make_rows(alloc: Global, rows: &mut Vec<Vec<Block>>, row: u32, columns: u32) 
         }
     }
     Ok(())
+}
+
+/// Returns whether a coefficient was at an end of the range of 16 bits: before, or one of a block
+/// that was read now.
+fn is_wide_with(is_wide: bool, block: &Block) -> bool
+    ensures { result ≡ false → (is_wide ≡ false) × AllInner block.now }
+{
+    is_wide || !is_inner(block)
 }
 
 impl Context<'_> {
@@ -345,9 +354,11 @@ impl Context<'_> {
             return Err(Stop::Refused(Refusal::OutOfMemory));
         };
         match self.read_coefficients(slot, past, bits, block) {
-            Ok(()) => Ok(()),
-            Err(rule) => Err(bits.breaks(rule)),
+            Ok(()) => (),
+            Err(rule) => return Err(bits.breaks(rule)),
         }
+        component.is_wide = is_wide_with(component.is_wide, block);
+        Ok(())
     }
 
     /// Reads a block of a sequential frame, whose coefficients have to be in range.
@@ -546,7 +557,7 @@ impl Context<'_> {
 }
 
 /// Returns whether a frame is progressive.
-fn is_progressive(frame: &Frame) -> bool
+pub(crate) fn is_progressive(frame: &Frame) -> bool
     ensures { result ≡ is_progressive_process frame.now.process }
 {
     matches!(frame.process, Process::Progressive)

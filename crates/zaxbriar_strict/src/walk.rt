@@ -1,6 +1,6 @@
 //! The walk over the segments of a stream (T.81, B.2.1).
-ghost use Rattle.std.specs.Prelude.{◌≡◌, ◌<◌, [], IfOk, false, true};
-ghost use Rattle.std.specs.List.{list_all};
+ghost use Rattle.std.specs.Prelude.{◌≡◌, ◌<◌, [], IfOk, IsTrue, Some, false, true};
+ghost use Rattle.std.specs.List.{AllByRecursion, list_all};
 ghost use Rattle.zaxbriar_strict.specs.Exact.{IsExact};
 ghost use Rattle.zaxbriar_strict.specs.Heads.{IsMade};
 ghost use Rattle.zaxbriar_strict.specs.Walks.{Finishes, IsFresh, IsOther, ReadsScan, WalksFrame};
@@ -60,6 +60,32 @@ fn is_sent(frame: &Frame) -> bool
     ensures { result ≡ list_all (λ c. c.has_scan) frame.now.components.items }
 {
     frame.components.iter().all(|component| component.has_scan)
+}
+
+/// Returns whether the lowest bit of each coefficient of a component was sent.
+fn has_lowest(lowest: &[Option<u8>; 64]) -> bool
+    ensures { IsTrue result → AllByRecursion (λ l. l ≡ Some 0) lowest.now }
+{
+    for level in lowest {
+        if *level != Some(0) {
+            return false;
+        }
+    }
+    true
+}
+
+/// Returns whether all bits of all coefficients of a progressive frame were sent.
+fn is_whole(frame: &Frame) -> bool
+    ensures { IsTrue result
+        → AllByRecursion (λ c. AllByRecursion (λ l. l ≡ Some 0) c.lowest)
+        frame.now.components.items }
+{
+    for component in frame.components.iter() {
+        if !has_lowest(&component.lowest) {
+            return false;
+        }
+    }
+    true
 }
 
 /// Reads a scan of a frame, and returns what follows it.
@@ -218,13 +244,11 @@ impl Walk {
         if !is_sent(frame) {
             return Err(place.breaks(Rule::ComponentWithoutScan));
         }
-        if frame.process != Process::Progressive {
+        if !transform::is_progressive(frame) {
             return Ok(());
         }
-        for component in frame.components.iter() {
-            if component.lowest.iter().any(|lowest| *lowest != Some(0)) {
-                return Err(place.breaks(Rule::UnsentBits));
-            }
+        if !is_whole(frame) {
+            return Err(place.breaks(Rule::UnsentBits));
         }
         if !frame.is_in_range() {
             return Err(place.breaks(Rule::Range));

@@ -22,12 +22,12 @@ returns-clause-kept c =
 pub returns-in_err-check_steps-clause-rows : goal.returns-in_err-check_steps-clause-rows
 returns-in_err-check_steps-clause-rows c =
     rows-item c.args.frame.now.components.items _ c.args.place c.in-Some.component.now c.check_steps.new.component
-    c.in-Some.ensures.value c.in_err-check_steps.ensures.rows refl
+    c.in-Some.ensures.value c.in_err-check_steps.ensures.rows c.in_err-check_steps.ensures.wide refl
 
 pub returns-clause-rows : goal.returns-clause-rows
 returns-clause-rows c =
     rows-item c.args.frame.now.components.items _ c.args.place c.in-Some.component.now c.check_steps.new.component
-    c.in-Some.ensures.value c.in_ok-check_steps.ensures.rows refl
+    c.in-Some.ensures.value c.in_ok-check_steps.ensures.rows c.in_ok-check_steps.ensures.wide refl
 
 pub returns-clause-installed : goal.returns-clause-installed
 returns-clause-installed c = λ k at.

@@ -1,12 +1,13 @@
-use Rattle.std.proofs.Common.{◌≡◌, ◌≤◌, ◌+◌, ◌*◌, ◌++◌, ℕ, List, refl, sym, ap, ap₂, ◌∙◌, arith, subst}
+use Rattle.std.proofs.Common.{◌≡◌, ◌≤◌, ◌+◌, ◌*◌, ◌++◌, ℕ, List, length, refl, sym, ap, ap₂, ◌∙◌, arith, subst}
 use Rattle.std.proofs.Math.Nat.{add-mul}
 use Rattle.jpeg_segments.specs.Frame.{Frame as WrittenFrame}
-use Rattle.jpeg_meaning.specs.ScanSegments.{vias_from}
+use Rattle.jpeg_meaning.specs.Order.{spots_of}
+use Rattle.jpeg_meaning.specs.ScanSegments.{components_of, vias_from}
 use Rattle.zaxbriar_strict.specs.Changes.{Kept, Place, kept_in}
 use Rattle.zaxbriar_strict.specs.Contexts.{row_places, scan_places, unit_of}
 use Rattle.zaxbriar_strict.specs.Heads.{is_progressive_process, members_of, written_frame}
 use Rattle.zaxbriar_strict.specs.Runs.{IsAfter}
-use Rattle.zaxbriar_strict.specs.ScanData.{ReadsData, units_high, units_wide}
+use Rattle.zaxbriar_strict.specs.ScanData.{AreAlike, IsAtSpot, ReadsData, units_high, units_wide}
 use Rattle.zaxbriar_strict.proofs.FrameComponents.{units-near, units-some}
 use Rattle.zaxbriar_strict.proofs.Places.{flat-more}
 use Rattle.zaxbriar_strict.proofs.Runs.{IsRead, all-read, begun}
@@ -14,6 +15,7 @@ use Rattle.zaxbriar_strict.proofs.SameFrames.{kept-row-places, kept-then, kept-u
 use Rattle.zaxbriar_strict.proofs.SameFrames.{same-precision, same-written}
 use Rattle.zaxbriar_strict.proofs.SentPasses.{sent-by}
 use Rattle.zaxbriar_strict.proofs.SequentialHeaders.{same-members}
+use Rattle.zaxbriar_strict.proofs.SpotPlaces.{places-at-spots}
 use Rattle.zaxbriar_strict.proofs.UnitWays.{data-read, unit-not-empty, unit-same, unit_by, ways-are}
 use Rattle.zaxbriar_strict.proofs.transform.read_scan.Goals as goal
 
@@ -100,10 +102,18 @@ returns-clause-read c = λ p made sends eight has.
     ap₂ (λ (x y : ℕ). x * y) (rows ∙ high) wide in
     let some : 1 ≤ c.loop-row.row * columns = omega (arith, all, units-some f ms made has.within) in
     let places = scan_places s.count cs ms columns c.loop-row.row in
+    let at : AreAlike (IsAtSpot codings) (spots_of frame (components_of codings)) places =
+    subst (λ (n : ℕ). AreAlike (IsAtSpot codings) (spots_of frame (components_of codings))
+    (scan_places n cs ms columns c.loop-row.row)) (sym has.counted)
+    (subst (λ (n : ℕ). AreAlike (IsAtSpot codings) (spots_of frame (components_of codings))
+    (scan_places (length ms) cs ms n c.loop-row.row)) (sym wide)
+    (subst (λ (n : ℕ). AreAlike (IsAtSpot codings) (spots_of frame (components_of codings))
+    (scan_places (length ms) cs ms (units_wide frame ms) n)) (sym (rows ∙ high))
+    (places-at-spots p t f ms codings made (omega (arith, count, one)) installed.are))) in
     let read = all-read rest a some (c.in_ok-end.ensures k) c.in_ok-rest.ensures in
     subst (λ (b : Kept). ReadsData (is_progressive_process f.process) p t frame ms b after bytes rest)
     (same-kept cs new.components.items c.in-Ok.ensures.rows)
-    (data-read (is_progressive_process f.process) p t frame ms installed places before after bytes rest
+    (data-read (is_progressive_process f.process) p t frame ms installed places before after bytes rest at
     (subst (λ b. IsRead b p unit t.interval (units_high frame ms * units_wide frame ms) places before after
     bytes rest) is
     (subst (λ (m : ℕ). IsRead k p unit t.interval m places before after bytes rest) all read)))

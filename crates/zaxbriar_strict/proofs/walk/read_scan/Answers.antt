@@ -1,6 +1,6 @@
-use Rattle.std.proofs.Common.{◌≡◌, ◌≤◌, refl, sym, ap, ◌∙◌, subst, arith}
+use Rattle.std.proofs.Common.{refl}
 use Rattle.std.proofs.lemmas.Result.{IfOk-weaker}
-use Rattle.zaxbriar_strict.specs.Heads.{IsMade, number_of}
+use Rattle.zaxbriar_strict.specs.Heads.{IsMade}
 use Rattle.zaxbriar_strict.specs.ScanData.{ReadsIfEight}
 use Rattle.zaxbriar_strict.specs.ScanSamples.{ReadsIfLossless}
 use Rattle.zaxbriar_strict.specs.Walks.{ReadsScan}
@@ -29,6 +29,7 @@ returns-in_default c =
       samples = λ again lossless has. absurd (c.in_default.not-Lossless (is-lossless between.process lossless));
       same = c.read_scan-in_default.ensures.same;
       sent = c.read_scan-in_default.ensures.sent;
+      lowest = c.read_scan-in_default.ensures.lowest;
     }) c.read_scan-in_default.ensures.read
 
 pub returns-in_ok-check_memory-in-Lossless : goal.returns-in_ok-check_memory-in-Lossless
@@ -50,4 +51,5 @@ returns-in_ok-check_memory-in-Lossless c =
       samples = read;
       same = same-none between;
       sent = refl;
+      lowest = refl;
     }) c.read_scan.ensures

@@ -31,6 +31,7 @@ loop-member-preserved c =
       unsent = λ once.
           noted.unsent (subst (λ (p : Process). number_of p ≢ 2) c.loop-member.invariant.same.process once);
       sent = noted.sent;
+      kept = noted.kept;
       noted = λ e.
           let first = ap is_progressive_process (sym c.loop-member.invariant.same.process) ∙ e in
           noted.noted first (c.in_ok-check_part.ensures first);

@@ -1,7 +1,6 @@
-use Rattle.std.proofs.Common.{rules, ◌≡◌, ◌≤◌, ◌+◌, ℕ, length, sym, ap, ◌∙◌, subst, arith, Option}
-use Rattle.jpeg_bits.specs.Passes.{Pass}
+use Rattle.std.proofs.Common.{rules, ◌+◌, ℕ, ◌∙◌, subst, Option}
 use Rattle.zaxbriar_strict.specs.Heads.{pass_in}
-use Rattle.zaxbriar_strict.specs.Progress.{NotesBand, NotesPass}
+use Rattle.zaxbriar_strict.specs.Progress.{NotesBand}
 use Rattle.zaxbriar_strict.proofs.NotedBands.{level-given, pass-noted, spans}
 use Rattle.zaxbriar_strict.proofs.scan.Scan.note_progress.Goals as goal
 
