@@ -19,6 +19,12 @@ FOR_BOTH(rows_new);
 FOR_BOTH(rows_next);
 FOR_BOTH(rows_refusal);
 FOR_BOTH(rows_free);
+FOR_BOTH(fed_new);
+FOR_BOTH(fed_feed);
+FOR_BOTH(fed_info);
+FOR_BOTH(fed_show);
+FOR_BOTH(fed_find_metadata);
+FOR_BOTH(fed_free);
 
 uint32_t zaxbriar_checked_read_info(const uint8_t *jpeg, size_t jpeg_size,
                                     const zaxbriar_options *options, zaxbriar_picture *picture) {
@@ -101,4 +107,39 @@ void zaxbriar_checked_rows_free(zaxbriar_kept *kept) {
         zaxbriar_v3_rows_free(kept);
     else
         zaxbriar_v2_rows_free(kept);
+}
+
+uint32_t zaxbriar_checked_fed_new(const zaxbriar_options *options, zaxbriar_kept *kept) {
+    if (zaxbriar_is_v3()) return zaxbriar_v3_fed_new(options, kept);
+    return zaxbriar_v2_fed_new(options, kept);
+}
+
+uint32_t zaxbriar_checked_fed_feed(zaxbriar_kept *kept, const uint8_t *bytes, size_t size) {
+    if (zaxbriar_is_v3()) return zaxbriar_v3_fed_feed(kept, bytes, size);
+    return zaxbriar_v2_fed_feed(kept, bytes, size);
+}
+
+uint32_t zaxbriar_checked_fed_info(zaxbriar_kept *kept, zaxbriar_picture *picture) {
+    if (zaxbriar_is_v3()) return zaxbriar_v3_fed_info(kept, picture);
+    return zaxbriar_v2_fed_info(kept, picture);
+}
+
+uint32_t zaxbriar_checked_fed_show(zaxbriar_kept *kept, uint8_t *pixels, size_t pixels_size,
+                                   zaxbriar_picture *picture) {
+    if (zaxbriar_is_v3()) return zaxbriar_v3_fed_show(kept, pixels, pixels_size, picture);
+    return zaxbriar_v2_fed_show(kept, pixels, pixels_size, picture);
+}
+
+void zaxbriar_checked_fed_find_metadata(zaxbriar_kept *kept, zaxbriar_places *places) {
+    if (zaxbriar_is_v3())
+        zaxbriar_v3_fed_find_metadata(kept, places);
+    else
+        zaxbriar_v2_fed_find_metadata(kept, places);
+}
+
+void zaxbriar_checked_fed_free(zaxbriar_kept *kept) {
+    if (zaxbriar_is_v3())
+        zaxbriar_v3_fed_free(kept);
+    else
+        zaxbriar_v2_fed_free(kept);
 }

@@ -181,14 +181,19 @@ struct zaxbriar_rows {
     zaxbriar_memory memory;
 };
 
-static const zaxbriar_memory *memory_in(const zaxbriar_rows *rows) {
-    return rows->memory.allocate ? &rows->memory : NULL;
+/* The functions that a caller gave, or all null. */
+static zaxbriar_memory copied(const zaxbriar_memory *memory) {
+    return memory ? *memory : (zaxbriar_memory){0};
+}
+
+static const zaxbriar_memory *given(const zaxbriar_memory *memory) {
+    return memory->allocate ? memory : NULL;
 }
 
 /* All zeros but for the functions, of the memory in use, or a null pointer. */
 static zaxbriar_rows *new_rows(const zaxbriar_memory *memory) {
     zaxbriar_rows *rows = zaxbriar_take_block(sizeof *rows);
-    if (rows) *rows = (zaxbriar_rows){.memory = memory ? *memory : (zaxbriar_memory){0}};
+    if (rows) *rows = (zaxbriar_rows){.memory = copied(memory)};
     return rows;
 }
 
@@ -228,7 +233,7 @@ zaxbriar_result zaxbriar_rows_new(const void *jpeg, size_t jpeg_size,
 
 zaxbriar_result zaxbriar_rows_next(zaxbriar_rows *rows, void *line, size_t line_size) {
     if (!rows || !is_slice(line, line_size)) return ZAXBRIAR_BAD_ARGUMENT;
-    const zaxbriar_memory *before = zaxbriar_exchange_memory(memory_in(rows));
+    const zaxbriar_memory *before = zaxbriar_exchange_memory(given(&rows->memory));
     uint32_t answer = zaxbriar_checked_rows_next(&rows->kept, line ? line : &nothing, line_size);
     zaxbriar_exchange_memory(before);
     return (zaxbriar_result)answer;
@@ -237,7 +242,7 @@ zaxbriar_result zaxbriar_rows_next(zaxbriar_rows *rows, void *line, size_t line_
 zaxbriar_result zaxbriar_rows_refusal(zaxbriar_rows *rows, zaxbriar_picture *picture) {
     if (!picture) return ZAXBRIAR_BAD_ARGUMENT;
     if (!rows) return bad_argument(picture, "rows is a null pointer");
-    const zaxbriar_memory *before = zaxbriar_exchange_memory(memory_in(rows));
+    const zaxbriar_memory *before = zaxbriar_exchange_memory(given(&rows->memory));
     uint32_t answer = zaxbriar_checked_rows_refusal(&rows->kept, picture);
     zaxbriar_exchange_memory(before);
     return (zaxbriar_result)answer;
@@ -246,9 +251,88 @@ zaxbriar_result zaxbriar_rows_refusal(zaxbriar_rows *rows, zaxbriar_picture *pic
 void zaxbriar_rows_free(zaxbriar_rows *rows) {
     if (!rows) return;
     zaxbriar_memory memory = rows->memory;
-    const zaxbriar_memory *before = zaxbriar_exchange_memory(memory.allocate ? &memory : NULL);
+    const zaxbriar_memory *before = zaxbriar_exchange_memory(given(&memory));
     zaxbriar_checked_rows_free(&rows->kept);
     zaxbriar_give_block(rows);
+    zaxbriar_exchange_memory(before);
+}
+
+/* The same of a stream that arrives in pieces, and where the places that its bytes have are stored,
+ * or a null pointer. */
+struct zaxbriar_fed {
+    zaxbriar_kept kept;
+    zaxbriar_memory memory;
+    zaxbriar_places *places;
+};
+
+/* Begins to take a stream, by the memory in use. */
+static uint32_t begin_fed(const zaxbriar_options *options, zaxbriar_fed **fed) {
+    zaxbriar_options others = without_pointers(options);
+    zaxbriar_fed *begun = zaxbriar_take_block(sizeof *begun);
+    if (!begun) return ZAXBRIAR_NO_MEMORY;
+    *begun = (zaxbriar_fed){.memory = copied(memory_of(options)),
+                            .places = options ? options->places : NULL};
+    uint32_t answer = zaxbriar_checked_fed_new(&others, &begun->kept);
+    if (answer == ZAXBRIAR_OK)
+        *fed = begun;
+    else
+        zaxbriar_give_block(begun);
+    return answer;
+}
+
+zaxbriar_result zaxbriar_fed_new(const zaxbriar_options *options, zaxbriar_fed **fed) {
+    if (!fed) return ZAXBRIAR_BAD_ARGUMENT;
+    *fed = NULL;
+    if (fault_of_decoding(NULL, 0, options)) return ZAXBRIAR_BAD_ARGUMENT;
+    const zaxbriar_memory *before = zaxbriar_exchange_memory(memory_of(options));
+    uint32_t answer = begin_fed(options, fed);
+    zaxbriar_exchange_memory(before);
+    return (zaxbriar_result)answer;
+}
+
+zaxbriar_result zaxbriar_fed_feed(zaxbriar_fed *fed, const void *bytes, size_t size) {
+    if (!fed || !is_slice(bytes, size)) return ZAXBRIAR_BAD_ARGUMENT;
+    const zaxbriar_memory *before = zaxbriar_exchange_memory(given(&fed->memory));
+    uint32_t answer = zaxbriar_checked_fed_feed(&fed->kept, bytes ? bytes : &nothing, size);
+    zaxbriar_exchange_memory(before);
+    return (zaxbriar_result)answer;
+}
+
+/* Finds the places in the bytes that were fed, where they are asked for, as `with_places` does. */
+static zaxbriar_result with_fed_places(uint32_t answer, zaxbriar_fed *fed) {
+    if (fed->places && answer != ZAXBRIAR_BAD_ARGUMENT)
+        zaxbriar_checked_fed_find_metadata(&fed->kept, fed->places);
+    return (zaxbriar_result)answer;
+}
+
+zaxbriar_result zaxbriar_fed_info(zaxbriar_fed *fed, zaxbriar_picture *picture) {
+    if (!picture) return ZAXBRIAR_BAD_ARGUMENT;
+    if (!fed) return bad_argument(picture, "fed is a null pointer");
+    const zaxbriar_memory *before = zaxbriar_exchange_memory(given(&fed->memory));
+    uint32_t answer = zaxbriar_checked_fed_info(&fed->kept, picture);
+    zaxbriar_exchange_memory(before);
+    return with_fed_places(answer, fed);
+}
+
+zaxbriar_result zaxbriar_fed_show(zaxbriar_fed *fed, void *pixels, size_t pixels_size,
+                                  zaxbriar_picture *picture) {
+    zaxbriar_picture unused;
+    if (!picture) picture = &unused;
+    if (!fed) return bad_argument(picture, "fed is a null pointer");
+    if (!is_slice(pixels, pixels_size)) return bad_argument(picture, "pixels is a null pointer");
+    const zaxbriar_memory *before = zaxbriar_exchange_memory(given(&fed->memory));
+    uint32_t answer = zaxbriar_checked_fed_show(&fed->kept, pixels ? pixels : &nothing,
+                                                pixels_size, picture);
+    zaxbriar_exchange_memory(before);
+    return with_fed_places(answer, fed);
+}
+
+void zaxbriar_fed_free(zaxbriar_fed *fed) {
+    if (!fed) return;
+    zaxbriar_memory memory = fed->memory;
+    const zaxbriar_memory *before = zaxbriar_exchange_memory(given(&memory));
+    zaxbriar_checked_fed_free(&fed->kept);
+    zaxbriar_give_block(fed);
     zaxbriar_exchange_memory(before);
 }
 

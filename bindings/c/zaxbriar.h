@@ -8,12 +8,14 @@
  *         fail(picture.text);
  *
  * The calls keep no state: there is no handle to create or free, any thread may make any call at
- * any time, and a call frees all memory that it has allocated before it returns. The exception is a
- * picture that is taken line by line, by a zaxbriar_rows. Whatever the bytes of the stream are, a
- * call returns; it never aborts, prints, calls longjmp or blocks.
+ * any time, and a call frees all memory that it has allocated before it returns. The exceptions are
+ * a picture that is taken line by line, by a zaxbriar_rows, and a stream that arrives in pieces, by
+ * a zaxbriar_fed. Whatever the bytes of the stream are, a call returns; it never aborts, prints,
+ * calls longjmp or blocks.
  *
  * The caller guarantees that
- * - `jpeg` points to `jpeg_size` readable bytes that don't change during the call;
+ * - `jpeg` points to `jpeg_size` readable bytes that don't change during the call, and so does
+ *   `bytes` to `size` ones;
  * - `pixels`, `data`, `line`, `picture`, `length`, `segment` and `places` point to writable memory,
  *   which doesn't overlap each other, `jpeg` or `options`, and which nothing else uses during the
  *   call;
@@ -67,8 +69,9 @@ typedef enum zaxbriar_result {
                                   inside the picture, or an option that planes don't have */
     ZAXBRIAR_NO_DATA = 7,      /* the header, or the whole image, has no such metadata */
     ZAXBRIAR_TOO_LARGE = 8,    /* according to its header, the picture exceeds a limit */
-    ZAXBRIAR_PARTIAL = 9,      /* only of zaxbriar_decode_partial: the stream has a fault, and
-                                  `pixels` has what it brings up to it: picture.fault */
+    ZAXBRIAR_PARTIAL = 9,      /* only of zaxbriar_decode_partial and zaxbriar_fed_show: the stream
+                                  has a fault, and `pixels` has what it brings up to it:
+                                  picture.fault */
     ZAXBRIAR_TOO_MANY_PASSES = 10, /* only of zaxbriar_decode, zaxbriar_decode_planes,
                                       zaxbriar_rows_next and zaxbriar_rows_refusal: the scans code
                                       the blocks of the picture more often than max_passes allows */
@@ -176,7 +179,8 @@ typedef enum zaxbriar_kind {
  * `context`, and have to behave like these for sizes that aren't 0: blocks are aligned to 16 bytes,
  * and a null pointer is returned if there is no memory. They have to return: no longjmp, and no C++
  * exception. They are called only while a call of this library runs, in its thread, and all blocks
- * have been freed when it returns; those of a zaxbriar_rows when zaxbriar_rows_free does. */
+ * have been freed when it returns; those of a zaxbriar_rows when zaxbriar_rows_free does, and those
+ * of a zaxbriar_fed when zaxbriar_fed_free does. */
 typedef struct zaxbriar_memory {
     void *(*allocate)(void *context, size_t size);
     void *(*resize)(void *context, void *block, size_t size);
@@ -242,8 +246,8 @@ typedef struct zaxbriar_segment {
  * picture again. All together they may code `max_passes` times the blocks that one scan of all
  * components codes, at full size (eight samples of a lossless picture count as a block). The scan
  * that would exceed this is refused after its header, before its data, as ZAXBRIAR_TOO_MANY_PASSES
- * (as ZAXBRIAR_MALFORMED by zaxbriar_metadata_within); zaxbriar_decode_partial gives what the scans
- * before it bring.
+ * (as ZAXBRIAR_MALFORMED by zaxbriar_metadata_within); zaxbriar_decode_partial and
+ * zaxbriar_fed_show give what the scans before it bring.
  *
  * `upright` turns the picture as picture.orientation says, from the Exif data before the frame
  * header: width, height, row_bytes and size are those of the upright picture, from
@@ -304,8 +308,9 @@ typedef struct zaxbriar_options {
     uint64_t max_bytes; /* limits picture.decoding_bytes; 0: no limit */
     const zaxbriar_memory *memory; /* null: malloc, realloc and free */
     zaxbriar_places *places; /* null, or where zaxbriar_read_info, zaxbriar_decode,
-                                zaxbriar_decode_partial and zaxbriar_decode_planes store what
-                                zaxbriar_find_metadata finds, whatever they return but
+                                zaxbriar_decode_partial, zaxbriar_decode_planes,
+                                zaxbriar_rows_new, zaxbriar_fed_info and zaxbriar_fed_show store
+                                what zaxbriar_find_metadata finds, whatever they return but
                                 ZAXBRIAR_BAD_ARGUMENT; the limits don't affect it */
     uint64_t max_passes; /* limits how many times the scans may code the blocks of the picture, all
                             together; 0: no limit. Few files need more than 8; 100 is a limit for
@@ -352,10 +357,10 @@ typedef struct zaxbriar_picture {
     uint32_t width;          /* in pixels, at the scale of the options, and upright or of a part if
                                 they ask for that */
     uint32_t height;
-    uint32_t whole_rows;      /* after ZAXBRIAR_PARTIAL, and ZAXBRIAR_OK of zaxbriar_decode_partial:
-                                 how many rows of the picture, or of the part of it, from its top
-                                 and before it is turned, are complete in each scan that has begun
-                                 (all after ZAXBRIAR_OK); otherwise 0 */
+    uint32_t whole_rows;      /* after ZAXBRIAR_PARTIAL, and ZAXBRIAR_OK of zaxbriar_decode_partial
+                                 and zaxbriar_fed_show: how many rows of the picture, or of the
+                                 part of it, from its top and before it is turned, are complete in
+                                 each scan that has begun (all after ZAXBRIAR_OK); otherwise 0 */
     uint8_t pixel_bytes;      /* bytes of a pixel in this layout */
     uint8_t layout;           /* the requested layout */
     uint8_t components;       /* samples of a pixel as it is stored: one of each component of the
@@ -518,6 +523,79 @@ ZAXBRIAR_API zaxbriar_result zaxbriar_rows_refusal(zaxbriar_rows *rows, zaxbriar
 /* Frees all memory of what zaxbriar_rows_new has returned, at any time between two calls. A null
  * pointer is ignored. */
 ZAXBRIAR_API void zaxbriar_rows_free(zaxbriar_rows *rows);
+
+/* Takes a stream in pieces, as they arrive, and shows at any time the picture of what has arrived:
+ * for a program that shows a picture while it is loaded.
+ *
+ *     zaxbriar_fed *fed;
+ *     if (zaxbriar_fed_new(NULL, &fed) != ZAXBRIAR_OK)
+ *         fail("out of memory");
+ *     while ((size = receive(piece)) != 0) {
+ *         if (zaxbriar_fed_feed(fed, piece, size) != ZAXBRIAR_OK)
+ *             fail("out of memory");
+ *         zaxbriar_result answer = zaxbriar_fed_info(fed, &picture);
+ *         if (answer == ZAXBRIAR_OK && is_time_to_show()) {
+ *             if (pixels == NULL)
+ *                 pixels = malloc(picture.size);
+ *             answer = zaxbriar_fed_show(fed, pixels, picture.size, &picture);
+ *             if (answer == ZAXBRIAR_OK || answer == ZAXBRIAR_PARTIAL)
+ *                 draw(pixels, picture.width, picture.height);
+ *             else
+ *                 fail(picture.text);
+ *         } else if (answer != ZAXBRIAR_OK && answer != ZAXBRIAR_TRUNCATED) {
+ *             fail(picture.text);
+ *         }
+ *     }
+ *     zaxbriar_fed_free(fed);
+ *
+ * However the stream was cut, zaxbriar_fed_info answers as zaxbriar_read_info does, and
+ * zaxbriar_fed_show as zaxbriar_decode_partial, of all bytes that were fed so far, in one piece,
+ * and with the options of zaxbriar_fed_new. So while the header isn't complete both are
+ * ZAXBRIAR_TRUNCATED; and then, while the image isn't, zaxbriar_fed_show is ZAXBRIAR_PARTIAL, and
+ * picture.fault is ZAXBRIAR_TRUNCATED. Any other fault is one of the bytes that have arrived.
+ *
+ * All bytes that were fed stay in memory until zaxbriar_fed_free. Each segment and each whole scan
+ * is read once, by the first zaxbriar_fed_show after it has arrived; what it has brought stays in
+ * memory from then on, picture.decoding_bytes at most, and a call that shows takes as much again
+ * while it runs. The scan in which the bytes end is read anew by each zaxbriar_fed_show, and the
+ * lines are made anew. So of a progressive stream a call reads little more than one scan; but most
+ * streams have a single scan, and a program that shows one after each small piece decodes it that
+ * often. To make the lines alone takes about half as long as one decode, however little has come.
+ * So show a picture once the bytes have doubled, say: eight such calls take about six times as long
+ * as one decode. With min_width, min_height or scale each zaxbriar_fed_show reads all bytes.
+ *
+ * Any thread may make the calls with a zaxbriar_fed, one call at a time: threads that share one
+ * take turns by a lock, say. Calls with different ones don't affect each other. */
+typedef struct zaxbriar_fed zaxbriar_fed;
+
+/* Begins to take a stream, of which there are no bytes yet. After ZAXBRIAR_OK *fed is what the four
+ * calls below take, and otherwise a null pointer. Returns ZAXBRIAR_NO_MEMORY; or
+ * ZAXBRIAR_BAD_ARGUMENT for options that don't exist, or a null pointer. (A stride or a crop that
+ * doesn't fit the picture is one of the calls that describe and show it.)
+ *
+ * The options are copied, with the functions of `memory`, which are called by the calls below too.
+ * `places` has to stay until zaxbriar_fed_free: zaxbriar_fed_info and zaxbriar_fed_show store there
+ * what the bytes have that were fed so far. */
+ZAXBRIAR_CALL zaxbriar_result zaxbriar_fed_new(const zaxbriar_options *options,
+                                               zaxbriar_fed **fed);
+
+/* Copies the next bytes of the stream, of which there may be any number. Returns ZAXBRIAR_OK;
+ * ZAXBRIAR_NO_MEMORY, after which none of them were taken, so that they can be fed again; or
+ * ZAXBRIAR_BAD_ARGUMENT for a null pointer. The call reads nothing of them. */
+ZAXBRIAR_CALL zaxbriar_result zaxbriar_fed_feed(zaxbriar_fed *fed, const void *bytes, size_t size);
+
+/* Describes the picture, as zaxbriar_read_info does of all bytes that were fed. The header is read
+ * anew by each call. */
+ZAXBRIAR_CALL zaxbriar_result zaxbriar_fed_info(zaxbriar_fed *fed, zaxbriar_picture *picture);
+
+/* Decodes what the bytes bring into `pixels`, as zaxbriar_decode_partial does of all bytes that
+ * were fed. More bytes can be fed after it, whatever it returns. `picture` may be null. */
+ZAXBRIAR_CALL zaxbriar_result zaxbriar_fed_show(zaxbriar_fed *fed, void *pixels,
+                                                size_t pixels_size, zaxbriar_picture *picture);
+
+/* Frees all memory of what zaxbriar_fed_new has returned, at any time between two calls. A null
+ * pointer is ignored. */
+ZAXBRIAR_API void zaxbriar_fed_free(zaxbriar_fed *fed);
 
 /* Copies the metadata of a kind (zaxbriar_kind) from the segments before the frame: Exif data from
  * the TIFF header on, XMP data, or an ICC profile. Stores their number of bytes in *length, even if

@@ -23,6 +23,13 @@ typedef zaxbriar_result giving(zaxbriar_rows *rows, void *line, size_t line_size
 typedef void freeing(zaxbriar_rows *rows);
 giving __real_zaxbriar_rows_next, __wrap_zaxbriar_rows_next;
 freeing __real_zaxbriar_rows_free, __wrap_zaxbriar_rows_free;
+typedef zaxbriar_result feeding(zaxbriar_fed *fed, const void *bytes, size_t size);
+typedef zaxbriar_result showing(zaxbriar_fed *fed, void *pixels, size_t pixels_size,
+                                zaxbriar_picture *picture);
+typedef void letting_go(zaxbriar_fed *fed);
+feeding __real_zaxbriar_fed_feed, __wrap_zaxbriar_fed_feed;
+showing __real_zaxbriar_fed_show, __wrap_zaxbriar_fed_show;
+letting_go __real_zaxbriar_fed_free, __wrap_zaxbriar_fed_free;
 
 /* The faults of decoding. */
 enum {
@@ -56,6 +63,9 @@ enum {
     LOSES_ROW,             /* rows_next passes over a line for which there is no room */
     ENDS_EARLY,            /* rows_next says END for a truncated file */
     KEEPS_ROWS,            /* rows_free frees nothing */
+    WRONG_SHOW,            /* fed_show gives another first pixel from time to time */
+    LOSES_PIECE,           /* fed_feed takes a byte less from time to time */
+    KEEPS_FED,             /* fed_free frees nothing */
 };
 
 static int is_now(int fault) { return FAULT == fault; }
@@ -201,4 +211,23 @@ zaxbriar_result __wrap_zaxbriar_rows_next(zaxbriar_rows *rows, void *line, size_
 
 void __wrap_zaxbriar_rows_free(zaxbriar_rows *rows) {
     if (!is_now(KEEPS_ROWS)) __real_zaxbriar_rows_free(rows);
+}
+
+zaxbriar_result __wrap_zaxbriar_fed_feed(zaxbriar_fed *fed, const void *bytes, size_t size) {
+    static unsigned count;
+    if (is_now(LOSES_PIECE) && size && ++count % 7 == 0) size--;
+    return __real_zaxbriar_fed_feed(fed, bytes, size);
+}
+
+zaxbriar_result __wrap_zaxbriar_fed_show(zaxbriar_fed *fed, void *pixels, size_t pixels_size,
+                                         zaxbriar_picture *picture) {
+    static unsigned count;
+    zaxbriar_result result = __real_zaxbriar_fed_show(fed, pixels, pixels_size, picture);
+    if (is_now(WRONG_SHOW) && result == ZAXBRIAR_PARTIAL && ++count % 7 == 0)
+        *(unsigned char *)pixels ^= 1;
+    return result;
+}
+
+void __wrap_zaxbriar_fed_free(zaxbriar_fed *fed) {
+    if (!is_now(KEEPS_FED)) __real_zaxbriar_fed_free(fed);
 }

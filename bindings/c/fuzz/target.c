@@ -951,10 +951,50 @@ static void check_growth(enum call call, struct shown *shorter, struct shown *lo
     }
 }
 
-/* Feeds the stream in pieces: what is there is decoded again as it grows. */
+/* A stream that was fed in pieces is shown as it is in one piece. */
+static void check_fed(zaxbriar_fed *fed, const struct shown *whole, const struct answer *info) {
+    size_t room = room_wanted();
+    struct answer answer = answered(zaxbriar_fed_info(fed, to_tell()));
+    CHECK(answer.result == info->result);
+    CHECK(!memcmp(&answer.picture, &info->picture, sizeof info->picture));
+    unsigned char *start = room_in(&pixel_pages, GUARD + room) + GUARD;
+    memset(start - GUARD, 0x5A, GUARD + room);
+    answer = answered(zaxbriar_fed_show(fed, start, room, to_tell()));
+    CHECK(answer.result == whole->answer.result);
+    CHECK(!memcmp(&answer.picture, &whole->answer.picture, sizeof answer.picture));
+    CHECK(is_all(start - GUARD, GUARD, 0x5A));
+    CHECK(!memcmp(start, whole->pixels, room));
+    check_places_of(&of.options, of.jpeg, whole->size, answer.result);
+}
+
+/* Feeds the stream in pieces, and shows it after each, and once more after some. */
+static void feed_pieces(const size_t sizes[3]) {
+    struct answer infos[3];
+    struct shown wholes[3];
+    zaxbriar_fed *fed = (zaxbriar_fed *)&wholes;
+    for (int i = 0; i < 3; i++) {
+        infos[i] = read_info(beginning(sizes[i]), sizes[i], &of.options);
+        wholes[i] = shown_of(PART, sizes[i], 0x5A);
+    }
+    begin_call(&of.options);
+    zaxbriar_result begun = zaxbriar_fed_new(&of.options, &fed);
+    CHECK(begun == (are_known(&of.options) ? ZAXBRIAR_OK : ZAXBRIAR_BAD_ARGUMENT));
+    CHECK((fed != NULL) == (begun == ZAXBRIAR_OK));
+    for (size_t i = 0, at = 0; fed && i < 3; at = sizes[i++]) {
+        CHECK(zaxbriar_fed_feed(fed, of.jpeg + at, sizes[i] - at) == ZAXBRIAR_OK);
+        for (size_t times = of.settings[GAP] % 3u; times <= 1 + i % 2; times++)
+            check_fed(fed, &wholes[i], &infos[i]);
+    }
+    zaxbriar_fed_free(fed);
+    end_counting(19);
+    for (int i = 0; i < 3; i++) free(wholes[i].pixels);
+}
+
+/* Feeds the stream in pieces: what is there is decoded again as it grows, and by a zaxbriar_fed. */
 static void feed(void) {
     size_t one = cut_at(FIRST_CUT), other = cut_at(SECOND_CUT);
     size_t sizes[] = {one < other ? one : other, one < other ? other : one, of.size};
+    feed_pieces(sizes);
     for (enum call call = WHOLE; call <= PART; call++) {
         struct shown before = shown_of(call, sizes[0], 0x5A);
         for (int i = 1; i < 3; i++) {

@@ -70,7 +70,24 @@ static uint32_t called(int of, uint32_t number, int right) {
     uint32_t zaxbriar_v##N##_rows_refusal(zaxbriar_kept *k, zaxbriar_picture *p) {                 \
         return called(N, 12, k == &kept && p == &picture);                                         \
     }                                                                                              \
-    void zaxbriar_v##N##_rows_free(zaxbriar_kept *k) { called(N, 11, k == &kept); }
+    void zaxbriar_v##N##_rows_free(zaxbriar_kept *k) { called(N, 11, k == &kept); }                \
+    uint32_t zaxbriar_v##N##_fed_new(const zaxbriar_options *o, zaxbriar_kept *k) {                \
+        return called(N, 13, o == &options && k == &kept);                                         \
+    }                                                                                              \
+    uint32_t zaxbriar_v##N##_fed_feed(zaxbriar_kept *k, const uint8_t *b, size_t n) {              \
+        return called(N, 14, k == &kept && b == bytes && n == 3);                                  \
+    }                                                                                              \
+    uint32_t zaxbriar_v##N##_fed_info(zaxbriar_kept *k, zaxbriar_picture *p) {                     \
+        return called(N, 15, k == &kept && p == &picture);                                         \
+    }                                                                                              \
+    uint32_t zaxbriar_v##N##_fed_show(zaxbriar_kept *k, uint8_t *x, size_t m,                      \
+                                      zaxbriar_picture *p) {                                       \
+        return called(N, 16, k == &kept && x == bytes + 1 && m == 2 && p == &picture);             \
+    }                                                                                              \
+    void zaxbriar_v##N##_fed_find_metadata(zaxbriar_kept *k, zaxbriar_places *p) {                 \
+        called(N, 17, k == &kept && p == &places);                                                 \
+    }                                                                                              \
+    void zaxbriar_v##N##_fed_free(zaxbriar_kept *k) { called(N, 18, k == &kept); }
 
 CALLS_OF(2)
 CALLS_OF(3)
@@ -93,8 +110,14 @@ int main(void) {
         CHECK(zaxbriar_checked_rows_next(&kept, bytes + 1, 2) == base + 10);
         CHECK(zaxbriar_checked_rows_refusal(&kept, &picture) == base + 12);
         zaxbriar_checked_rows_free(&kept);
+        CHECK(zaxbriar_checked_fed_new(&options, &kept) == base + 13);
+        CHECK(zaxbriar_checked_fed_feed(&kept, bytes, 3) == base + 14);
+        CHECK(zaxbriar_checked_fed_info(&kept, &picture) == base + 15);
+        CHECK(zaxbriar_checked_fed_show(&kept, bytes + 1, 2, &picture) == base + 16);
+        zaxbriar_checked_fed_find_metadata(&kept, &places);
+        zaxbriar_checked_fed_free(&kept);
     }
-    CHECK(calls == 24);
+    CHECK(calls == 36);
     printf("levels: %d calls; %d faults\n", calls, faults);
     return faults != 0;
 }

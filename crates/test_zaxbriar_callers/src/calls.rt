@@ -18,12 +18,12 @@ ghost use Rattle.zaxbriar_calls.specs.declared.extents.Extent.TheVariants.{Whole
 ghost use Rattle.zaxbriar_calls.specs.declared.extents.Extent.TheVariants.{Planes};
 
 use std::alloc::Global;
-use zaxbriar_calls::calls;
 use zaxbriar_calls::kept::Kept;
 use zaxbriar_calls::options::Options;
 use zaxbriar_calls::picture::Picture;
 use zaxbriar_calls::places::Places;
 use zaxbriar_calls::segments::Segment;
+use zaxbriar_calls::{calls, handle_calls};
 
 /// Calls `read_info`, and says how many bytes the header takes, and that no room is asked for.
 pub fn described(alloc: Global, jpeg: &[u8], options: &Options, picture: &mut Picture) -> u32
@@ -206,19 +206,19 @@ pub fn begun(
 ) -> u32
     ensures { BeginsReading options.now jpeg.now picture.new result kept.new.value }
 {
-    calls::begin_rows(alloc, jpeg, options, kept, picture)
+    handle_calls::begin_rows(alloc, jpeg, options, kept, picture)
 }
 
 /// Calls `next_row`, and says which line is the next, and when there is none.
 pub fn next_line(alloc: Global, kept: &mut Kept, line: &mut [u8]) -> u32
     ensures { TakesNext kept.old.value kept.new.value line.old line.new result }
 {
-    calls::next_row(alloc, kept, line)
+    handle_calls::next_row(alloc, kept, line)
 }
 
 /// Calls `tell_refusal`, and says what a picture is told, and that the reader stays.
 pub fn told_refusal(alloc: Global, kept: &mut Kept, picture: &mut Picture) -> u32
     ensures { TellsRefusal kept.old.value kept.new.value picture.old picture.new result }
 {
-    calls::tell_refusal(alloc, kept, picture)
+    handle_calls::tell_refusal(alloc, kept, picture)
 }

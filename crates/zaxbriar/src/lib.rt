@@ -2,7 +2,8 @@
 //!
 //! The calls keep no state and share nothing: each reads its stream from the start, writes only
 //! through its arguments, and has freed all of its memory when it returns. Only the lines of a
-//! picture that are taken one by one have a reader, which C keeps between the calls for them.
+//! picture that are taken one by one have a reader, and a stream that arrives in pieces its bytes,
+//! which C keeps between the calls for them.
 //! `bindings/c/zaxbriar.h` has the functions that a C program calls: they test the pointers and
 //! then call these. `zaxbriar_calls` does what each of them does.
 #![tactic(auto)]
@@ -16,16 +17,18 @@ ghost use Rattle.zaxbriar_calls.specs.FindsSegment.{FindsSegment};
 ghost use Rattle.zaxbriar_calls.specs.Places.{places_of};
 ghost use Rattle.zaxbriar_calls.specs.ReadsInfo.{ReadsInfo};
 ghost use Rattle.zaxbriar_calls.specs.TakenLines.{BeginsReading, TakesNext, TellsRefusal};
+ghost use Rattle.zaxbriar_calls.specs.TakenStreams.{BeginsStream, DescribesArrived, FindsArrived};
+ghost use Rattle.zaxbriar_calls.specs.TakenStreams.{ShowsArrived, TakesBytes};
 ghost use Rattle.zaxbriar_calls.specs.declared.extents.Extent.TheVariants.{Whole, Partial};
 ghost use Rattle.zaxbriar_calls.specs.declared.extents.Extent.TheVariants.{Planes};
 
 use std::alloc::Global;
-use zaxbriar_calls::calls;
 use zaxbriar_calls::kept::Kept;
 use zaxbriar_calls::options::Options;
 use zaxbriar_calls::picture::Picture;
 use zaxbriar_calls::places::Places;
 use zaxbriar_calls::segments::Segment;
+use zaxbriar_calls::{calls, handle_calls};
 
 /// Describes the picture of a stream, by its header.
 #[unsafe(no_mangle)]
@@ -146,7 +149,7 @@ pub extern "C" fn zaxbriar_checked_rows_new(
 ) -> u32
     ensures { BeginsReading options.now jpeg.now picture.new result kept.new.value }
 {
-    calls::begin_rows(alloc, jpeg, options, kept, picture)
+    handle_calls::begin_rows(alloc, jpeg, options, kept, picture)
 }
 
 /// Writes the next line of a picture.
@@ -154,7 +157,7 @@ pub extern "C" fn zaxbriar_checked_rows_new(
 pub extern "C" fn zaxbriar_checked_rows_next(alloc: Global, kept: &mut Kept, line: &mut [u8]) -> u32
     ensures { TakesNext kept.old.value kept.new.value line.old line.new result }
 {
-    calls::next_row(alloc, kept, line)
+    handle_calls::next_row(alloc, kept, line)
 }
 
 /// Writes why the stream of a reader was refused into a picture, whose other members stay: its text
@@ -167,7 +170,7 @@ pub extern "C" fn zaxbriar_checked_rows_refusal(
 ) -> u32
     ensures { TellsRefusal kept.old.value kept.new.value picture.old picture.new result }
 {
-    calls::tell_refusal(alloc, kept, picture)
+    handle_calls::tell_refusal(alloc, kept, picture)
 }
 
 /// Lets the reader go.
@@ -175,5 +178,68 @@ pub extern "C" fn zaxbriar_checked_rows_refusal(
 pub extern "C" fn zaxbriar_checked_rows_free(alloc: Global, kept: &mut Kept)
     ensures { kept.new.value ≡ None }
 {
-    calls::end_rows(alloc, kept);
+    handle_calls::end(alloc, kept);
+}
+
+/// Begins to take a stream in pieces: `kept` has it after OK.
+#[unsafe(no_mangle)]
+pub extern "C" fn zaxbriar_checked_fed_new(alloc: Global, options: &Options, kept: &mut Kept) -> u32
+    ensures { BeginsStream options.now result kept.new.value }
+{
+    handle_calls::begin_stream(alloc, options, kept)
+}
+
+/// Takes the next bytes of a stream.
+#[unsafe(no_mangle)]
+pub extern "C" fn zaxbriar_checked_fed_feed(alloc: Global, kept: &mut Kept, bytes: &[u8]) -> u32
+    ensures { TakesBytes kept.old.value kept.new.value bytes.now result }
+{
+    handle_calls::feed(alloc, kept, bytes)
+}
+
+/// Describes the picture of a stream, by the header in the bytes that were fed.
+#[unsafe(no_mangle)]
+pub extern "C" fn zaxbriar_checked_fed_info(
+    alloc: Global,
+    kept: &mut Kept,
+    picture: &mut Picture,
+) -> u32
+    ensures { DescribesArrived kept.old.value kept.new.value picture.old picture.new result }
+{
+    handle_calls::stream_info(alloc, kept, picture)
+}
+
+/// Decodes what the bytes that were fed bring up to their first fault or their end into `pixels`.
+/// What they don't bring is mid-grey.
+#[unsafe(no_mangle)]
+pub extern "C" fn zaxbriar_checked_fed_show(
+    alloc: Global,
+    kept: &mut Kept,
+    pixels: &mut [u8],
+    picture: &mut Picture,
+) -> u32
+    ensures { ShowsArrived kept.old.value kept.new.value pixels.old pixels.new picture.old
+        picture.new result }
+{
+    handle_calls::show(alloc, kept, pixels, picture)
+}
+
+/// Finds the metadata in the bytes that were fed.
+#[unsafe(no_mangle)]
+pub extern "C" fn zaxbriar_checked_fed_find_metadata(
+    alloc: Global,
+    kept: &mut Kept,
+    places: &mut Places,
+)
+    ensures { FindsArrived kept.old.value kept.new.value places.old places.new }
+{
+    handle_calls::find_stream_metadata(alloc, kept, places);
+}
+
+/// Lets the stream go.
+#[unsafe(no_mangle)]
+pub extern "C" fn zaxbriar_checked_fed_free(alloc: Global, kept: &mut Kept)
+    ensures { kept.new.value ≡ None }
+{
+    handle_calls::end(alloc, kept);
 }

@@ -1,20 +1,18 @@
 -- What a call that begins to give lines says of its outcome.
-use Rattle.std.proofs.Common.{◌≡◌, ◌∙◌, ℕ, List, Option, Result, Ok, Err, true}
-use Rattle.std.proofs.Common.{ap, refl, subst, sym}
+use Rattle.std.proofs.Common.{◌≡◌, ℕ, List, Option, None, Some, Result, Ok, Err, true}
 use Rattle.std.specs.Option.{MatchOption}
-use Rattle.std.specs.Prelude.{Box, IfErr, IfOk, replicate, slice_index}
-use Rattle.std.specs.declared.alloc.Global.{Global}
-use Rattle.zaxbriar_calls.proofs.Fails.{code-fails}
+use Rattle.std.specs.Prelude.{IfErr, IfOk, OnErr, OnOk, replicate, slice_index}
 use Rattle.zaxbriar_calls.proofs.Informed.{informs}
-use Rattle.zaxbriar_calls.proofs.TakenSteps.{described-err, described-ok}
-use Rattle.zaxbriar_calls.proofs.Told.{ending}
+use Rattle.zaxbriar_calls.proofs.Told.{ending, if-ok}
 use Rattle.zaxbriar_calls.specs.Faults.{IsOwn, status_of}
 use Rattle.zaxbriar_calls.specs.Features.{outcome_feature}
+use Rattle.zaxbriar_calls.specs.Handles.{rows_in}
 use Rattle.zaxbriar_calls.specs.Meanings.{no_picture}
 use Rattle.zaxbriar_calls.specs.Outcomes.{DescribesStream}
-use Rattle.zaxbriar_calls.specs.TakenLines.{BeginsReading, BeginsRows, Keeps, are_for_rows}
+use Rattle.zaxbriar_calls.specs.TakenLines.{BeginsReading, BeginsRows, KeepsRows, are_for_rows}
 use Rattle.zaxbriar_calls.specs.declared.answers.Refusal.{Refusal}
 use Rattle.zaxbriar_calls.specs.declared.features.Feature.{Feature}
+use Rattle.zaxbriar_calls.specs.declared.handle.Handle.{Handle}
 use Rattle.zaxbriar_calls.specs.declared.options.Options.{Options}
 use Rattle.zaxbriar_calls.specs.declared.picture.Picture.{Picture}
 use Rattle.zaxbriar_calls.specs.declared.rows.RowReader.{RowReader}
@@ -33,43 +31,28 @@ told-beside o bytes picture feature text r b = record {
   reason = b.reason;
 }
 
-described-begun : (o : Options) (bytes : List ℕ) (picture : Picture) (begun : Result (Box RowReader Global) Refusal)
-    (outcome : Result (Unit {0}) Refusal) (kept : Option RowReader) → Keeps begun outcome kept
-    → DescribesStream o bytes no_picture picture begun → DescribesStream o bytes no_picture picture outcome
-described-begun o bytes picture (Ok b) outcome kept k d =
-    subst (λ (r : Result (Unit {0}) Refusal). DescribesStream o bytes no_picture picture r) (sym k.0)
-    (described-ok o bytes no_picture picture (Ok b) b tt refl d)
-described-begun o bytes picture (Err refusal) outcome kept k d =
-    subst (λ (r : Result (Unit {0}) Refusal). DescribesStream o bytes no_picture picture r) (sym k.0)
-    (described-err {X = Box RowReader Global} o bytes no_picture picture (Err refusal) refusal refl d)
+-- The reader that is kept is the same.
+kept-beside : (o : Options) (bytes : List ℕ) (picture : Picture) (feature : Feature) (text : List ℕ)
+    (kept : Option RowReader) → MatchOption kept ⊥ (BeginsRows o bytes picture)
+    → MatchOption kept ⊥ (BeginsRows o bytes (ending picture feature text))
+kept-beside o bytes picture feature text None k = k
+kept-beside o bytes picture feature text (Some r) k = told-beside o bytes picture feature text r k
 
-reader-begun : (o : Options) (bytes : List ℕ) (picture : Picture) (begun : Result (Box RowReader Global) Refusal)
-    (outcome : Result (Unit {0}) Refusal) (kept : Option RowReader) (feature : Feature) (text : List ℕ) (code : ℕ)
-    → Keeps begun outcome kept → code ≡ status_of outcome
-    → IfOk begun (λ b. BeginsRows o bytes picture b.value)
-    → MatchOption kept (code ≡ 0 → ⊥) (λ r. (code ≡ 0) × BeginsRows o bytes (ending picture feature text) r)
-reader-begun o bytes picture (Ok b) outcome kept feature text code k c begins =
-    subst (λ (s : Option RowReader). MatchOption s (code ≡ 0 → ⊥)
-    (λ r. (code ≡ 0) × BeginsRows o bytes (ending picture feature text) r)) (sym k.1) (
-      c ∙ ap (λ (r : Result (Unit {0}) Refusal). status_of r) k.0,
-      told-beside o bytes picture feature text b.value begins,
-    )
-reader-begun o bytes picture (Err refusal) outcome kept feature text code k c begins =
-    subst (λ (s : Option RowReader). MatchOption s (code ≡ 0 → ⊥)
-    (λ r. (code ≡ 0) × BeginsRows o bytes (ending picture feature text) r)) (sym k.1)
-    (λ z. code-fails refusal (sym (ap (λ (r : Result (Unit {0}) Refusal). status_of r) k.0) ∙ (sym c ∙ z)))
+none-kept : (outcome : Result (Unit {0}) Refusal) (kept : Option Handle) (code : ℕ) → OnErr outcome (kept ≡ None)
+    → code ≡ status_of outcome → (code ≡ 0 → ⊥) → kept ≡ None
+none-kept (Ok x) kept code h c n = absurd (n c)
+none-kept (Err r) kept code h c n = h
 
-pub begins-reading : (o : Options) (bytes : List ℕ) (picture : Picture)
-    (begun : Result (Box RowReader Global) Refusal) (outcome : Result (Unit {0}) Refusal) (kept : Option RowReader)
-    (feature : Feature) (text : List ℕ) (code : ℕ) → are_for_rows o ≡ true
-    → DescribesStream o bytes no_picture picture begun → IfOk begun (λ b. BeginsRows o bytes picture b.value)
-    → Keeps begun outcome kept → code ≡ status_of outcome → feature ≡ outcome_feature outcome
+pub begins-reading : (o : Options) (bytes : List ℕ) (picture : Picture) (outcome : Result (Unit {0}) Refusal)
+    (kept : Option Handle) (feature : Feature) (text : List ℕ) (code : ℕ) → are_for_rows o ≡ true
+    → DescribesStream o bytes no_picture picture outcome → OnOk outcome (KeepsRows o bytes picture kept)
+    → OnErr outcome (kept ≡ None) → code ≡ status_of outcome → feature ≡ outcome_feature outcome
     → IfOk outcome (λ _. text ≡ replicate 112 0) → slice_index text 111 ≡ 0
     → IfErr outcome (λ r. IsOwn r → slice_index text 0 ≡ 0 → ⊥)
     → BeginsReading o bytes (ending picture feature text) code kept
-begins-reading o bytes picture begun outcome kept feature text code known d begins k c f t ended said = record {
-  described = λ _. informs o bytes picture outcome feature text code
-      (described-begun o bytes picture begun outcome kept k d) c f t ended said;
+begins-reading o bytes picture outcome kept feature text code known d begins none c f t ended said = record {
+  described = λ _. informs o bytes picture outcome feature text code d c f t ended said;
   unknown = λ n. absurd cc;
-  reader = reader-begun o bytes picture begun outcome kept feature text code k c begins;
+  reader = λ z. kept-beside o bytes picture feature text (rows_in kept) (if-ok _ outcome code c begins z);
+  none = λ n. none-kept outcome kept code none c n;
 }

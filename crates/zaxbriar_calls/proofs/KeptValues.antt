@@ -30,8 +30,8 @@ use Rattle.std_alloc.specs.Box.Ownership.{box_owns}
 use Rattle.std_alloc.proofs.ResultValues.{and_tt}
 use Rattle.std.specs.declared.option.Option.{Option}
 use Rattle.zaxbriar_calls.specs.Kept.{kept_owns}
-use Rattle.zaxbriar_calls.specs.declared.rows.RowReader.{RowReader}
-use Rattle.zaxbriar_calls.specs.contracts.rows.RowReader as state
+use Rattle.zaxbriar_calls.specs.declared.handle.Handle.{Handle}
+use Rattle.zaxbriar_calls.specs.contracts.handle.Handle as state
 use Rattle.zaxbriar_calls.specs.contracts.kept.Kept as kept
 use Rattle.zaxbriar_calls.proofs.LooseValues.{both_tt}
 
@@ -54,7 +54,7 @@ abbrev pub al : Al
 al = record { row = Z; laws = heap_laws.the_row_laws; g = ghosts; d = impl [] tnil dnil; drops = impl [] tnil dnil }
 
 module _ {M : Type 1} {𝓤 : Ura M} {𝓛 : Logic 𝓤} {K : Type 0} {Γ : List (Item 𝓤)} {G : Goal 𝓤 𝓛.H} where
-  pub kept_in : K → (b o : ℕ) (h : Val) (a : Global) (x : RowReader)
+  pub kept_in : K → (b o : ℕ) (h : Val) (a : Global) (x : Handle)
       → Step K 𝓛 (‵ ((kept.the_row).own_val (record { at = block_ptr b o; used = 1; alloc = a; value = Some x }) (three (vptr b o) (vint w64 1) h ∷ [])) ∷ Γ) G
       (‵ (box_owns (ghosts.dealloc_token a) state.the_row (block_ptr b o) x) ∷ ‵ (Z.own_val a (h ∷ [])) ∷ Γ) G
   kept_in t b o h a x = step (λ s. let v : Val = three (vptr b o) (vint w64 1) h in
@@ -71,17 +71,17 @@ module _ {M : Type 1} {𝓤 : Ura M} {𝓛 : Logic 𝓤} {K : Type 0} {Γ : List
       fpack t (Valss (RawPtr ∷ u64 ∷ (heap.the_field).row ∷ [])) (within (shape kept.the_type) (null_ptr, (0, ((heap.the_field).into a, tt))) (v ∷ [])) (vint w64 0 ∷ [], (vint w64 0 ∷ [], (h ∷ [], tt))) $
       feq_i t ℕ 0 0 refl $ move t (1 ∷ []) $ fjoin t $ s)
 
-  kept_split : K → (p : Ptr) (n : ℕ) (a : Global) (value : Option RowReader) → (n ≡ 0 → value ≡ None → Seq K 𝓛 Γ G)
-      → ((b o : ℕ) (x : RowReader) → p ≡ block_ptr b o → n ≡ 1 → value ≡ Some x → Seq K 𝓛 (‵ (box_owns (ghosts.dealloc_token a) state.the_row (block_ptr b o) x) ∷ Γ) G)
+  kept_split : K → (p : Ptr) (n : ℕ) (a : Global) (value : Option Handle) → (n ≡ 0 → value ≡ None → Seq K 𝓛 Γ G)
+      → ((b o : ℕ) (x : Handle) → p ≡ block_ptr b o → n ≡ 1 → value ≡ Some x → Seq K 𝓛 (‵ (box_owns (ghosts.dealloc_token a) state.the_row (block_ptr b o) x) ∷ Γ) G)
       → Seq K 𝓛 (‵ (kept_owns a p n value) ∷ Γ) G
   kept_split t p n a None none one = feq_l t (λ e. none e refl)
   kept_split t p n a (Some x) none one = fsplit t $ feq_l t (λ e.
       in_a_block t p (λ q. box_owns (ghosts.dealloc_token a) state.the_row q x) (fst∗ 𝓤 (never 𝓤) (sem 𝓛 (ghosts.dealloc_token a (bare (lone (state.the_row).mir)) null_ptr))) (λ b o i. one b o x i e refl))
 
 module _ {M : Type 1} {𝓤 : Ura M} {𝓛 : Logic 𝓤} {K : Type 0} {Γ : List (Item 𝓤)} {G : Goal 𝓤 𝓛.H} where
-  pub kept_out : K → (p : Ptr) (n : ℕ) (a : Global) (value : Option RowReader) (vs : List Val)
+  pub kept_out : K → (p : Ptr) (n : ℕ) (a : Global) (value : Option Handle) (vs : List Val)
       → ((h : Val) → value ≡ None → vs ≡ three (ptr_val p) (vint w64 0) h ∷ [] → Good (layout Z) h → Seq K 𝓛 (‵ (Z.own_val a (h ∷ [])) ∷ Γ) G)
-      → ((b o : ℕ) (h : Val) (x : RowReader) → value ≡ Some x → vs ≡ three (vptr b o) (vint w64 1) h ∷ [] → Good (layout Z) h
+      → ((b o : ℕ) (h : Val) (x : Handle) → value ≡ Some x → vs ≡ three (vptr b o) (vint w64 1) h ∷ [] → Good (layout Z) h
       → Seq K 𝓛 (‵ (box_owns (ghosts.dealloc_token a) state.the_row (block_ptr b o) x) ∷ ‵ (Z.own_val a (h ∷ [])) ∷ Γ) G)
       → Seq K 𝓛 (‵ ((kept.the_row).own_val (record { at = p; used = n; alloc = a; value = value }) vs) ∷ Γ) G
   kept_out t p n a value vs none one =

@@ -36,3 +36,4 @@ mod TurnedLines
 mod TurnedPlaces
 mod TurnedRuns
 mod Written
+mod WrittenLines

@@ -1,3 +1,4 @@
+pub mod Arrived
 pub mod Boxed
 pub mod BoxedLines
 pub mod CopiesJoined
@@ -9,6 +10,7 @@ pub mod Features
 pub mod Fills
 pub mod FindsSegment
 pub mod Given
+pub mod Handles
 pub mod Joined
 pub mod Kept
 pub mod Layouts
@@ -24,5 +26,7 @@ pub mod ReadsInfo
 pub mod Sampling
 pub mod StreamSegments
 pub mod TakenLines
+pub mod TakenStreams
 pub mod Upright
 pub mod Worked
+pub mod WrittenLines

@@ -16,6 +16,10 @@ use Rattle.zaxbriar_calls.specs.declared.picture.Picture.{Picture}
 abbrev pub is_denominator : ℕ → Bool
 is_denominator n = n == 0 || (n == 1 || (n == 2 || (n == 4 || n == 8)))
 
+-- whether a picture is to have its full size, whatever that is
+abbrev pub is_full_size : Options → Bool
+is_full_size o = o.scale == 0 && (o.min_width == 0 && o.min_height == 0)
+
 -- whether all that is reserved is 0
 abbrev pub is_rest_zero : Options → Bool
 is_rest_zero o = list_all (λ word. word == 0) o.pointer_words

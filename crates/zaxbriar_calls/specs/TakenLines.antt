@@ -1,9 +1,8 @@
 -- What the calls do that give the lines of a picture one by one, as its stream is read.
 use Rattle.std.specs.Prelude.{◌≡◌, ◌⊎◌, ◌++◌, ◌<◌, ◌≤◌, ◌&&◌, ◌==◌, ◌*◌, ℕ, Bool, List, []}
-use Rattle.std.specs.Prelude.{Box, Result, Ok, Err, drop, false, length, not, option_map, take}
+use Rattle.std.specs.Prelude.{Result, Ok, Err, drop, false, length, not, option_map, take}
 use Rattle.std.specs.Prelude.{replicate, slice_index, true}
 use Rattle.std.specs.Option.{MatchOption}
-use Rattle.std.specs.declared.alloc.Global.{Global}
 use Rattle.std.specs.declared.option.Option.{Option}
 use Rattle.std.specs.declared.option.Option.TheVariants.{None, Some}
 use Rattle.jpeg_bits.specs.declared.error.Error.{Error}
@@ -16,10 +15,12 @@ use Rattle.zaxbriar_calls.specs.Boxed.{is_fitted}
 use Rattle.zaxbriar_calls.specs.Crops.{is_cropped}
 use Rattle.zaxbriar_calls.specs.Faults.{StandsFor, fault_code, with_passes}
 use Rattle.zaxbriar_calls.specs.Features.{feature_of, numbered}
+use Rattle.zaxbriar_calls.specs.Handles.{rows_in}
 use Rattle.zaxbriar_calls.specs.Limits.{are_known}
 use Rattle.zaxbriar_calls.specs.Meanings.{ReadsHeader, as_described, no_picture}
 use Rattle.zaxbriar_calls.specs.ReadsInfo.{ReadsInfo}
 use Rattle.zaxbriar_calls.specs.declared.answers.Refusal.{Refusal}
+use Rattle.zaxbriar_calls.specs.declared.handle.Handle.{Handle}
 use Rattle.zaxbriar_calls.specs.declared.options.Options.{Options}
 use Rattle.zaxbriar_calls.specs.declared.picture.Picture.{Picture}
 use Rattle.zaxbriar_calls.specs.declared.rows.Reason.{Reason}
@@ -128,26 +129,27 @@ pub record TakesLine (old new : RowReader) (before after : List ℕ) (code : ℕ
       → TakesOne old new before after code
       ⊎ (EndsLines old new before after code ⊎ IsRefused old new before after code)
 
--- ---- the calls, with a reader that is kept between them
+-- ---- the calls, with a reader that is held between them
 
--- A reader that was begun is kept, and without one none is.
-abbrev pub Keeps : Result (Box RowReader Global) Refusal → Result (Unit {0}) Refusal
-    → Option RowReader → Type 0
-Keeps (Ok reader) outcome kept = (outcome ≡ Ok tt) × (kept ≡ Some reader.value)
-Keeps (Err refusal) outcome kept = (outcome ≡ Err refusal) × (kept ≡ None)
+-- A reader is held whose header was read.
+abbrev pub KeepsRows : Options → List ℕ → Picture → Option Handle → Type 0
+KeepsRows o bytes picture held = MatchOption (rows_in held) ⊥ (BeginsRows o bytes picture)
 
--- A reader is kept where a stream was begun. The picture is described as `read_info` describes it.
+-- A reader is held where a stream was begun, and nothing where none was. The picture is described
+-- as `read_info` describes it.
 pub record BeginsReading (o : Options) (bytes : List ℕ) (picture : Picture) (code : ℕ)
-    (kept : Option RowReader) : Type 0 where
+    (held : Option Handle) : Type 0 where
   pub described : are_for_rows o ≡ true → ReadsInfo o bytes picture code
   pub unknown : are_for_rows o ≡ false → (code ≡ 6) × (as_described picture ≡ no_picture)
-  pub reader : MatchOption kept (code ≡ 0 → ⊥) (λ r. (code ≡ 0) × BeginsRows o bytes picture r)
+  pub reader : code ≡ 0 → KeepsRows o bytes picture held
+  pub none : (code ≡ 0 → ⊥) → held ≡ None
 
--- A line of the reader that is kept was taken. Where none is kept, it is BAD_ARGUMENT.
-abbrev pub TakesNext : Option RowReader → Option RowReader → List ℕ → List ℕ → ℕ → Type 0
+-- A line of the reader that is held was taken. Where none is, it is BAD_ARGUMENT, and nothing
+-- changes.
+abbrev pub TakesNext : Option Handle → Option Handle → List ℕ → List ℕ → ℕ → Type 0
 TakesNext old new before after code =
-    MatchOption old ((new ≡ None) × (after ≡ before) × (code ≡ 6))
-    (λ r. MatchOption new ⊥ (λ s. TakesLine r s before after code))
+    MatchOption (rows_in old) ((new ≡ old) × (after ≡ before) × (code ≡ 6))
+    (λ r. MatchOption (rows_in new) ⊥ (λ s. TakesLine r s before after code))
 
 -- a picture that says why a stream was refused, and is otherwise as it was
 abbrev pub telling : Reason → Picture → Picture
@@ -157,9 +159,9 @@ telling reason picture = record picture {
   text = reason.text;
 }
 
--- A picture gets what the reader that is kept says of its refusal; the number is that with which it
--- has ended, or 0 before. Where none is kept, it is BAD_ARGUMENT.
-abbrev pub TellsRefusal : Option RowReader → Option RowReader → Picture → Picture → ℕ → Type 0
+-- A picture gets what the reader that is held says of its refusal; the number is that with which it
+-- has ended, or 0 before. Where none is, it is BAD_ARGUMENT, and nothing changes.
+abbrev pub TellsRefusal : Option Handle → Option Handle → Picture → Picture → ℕ → Type 0
 TellsRefusal old new before after code =
-    MatchOption old ((new ≡ None) × (after ≡ before) × (code ≡ 6))
-    (λ r. (new ≡ Some r) × (after ≡ telling r.reason before) × (code ≡ r.answer))
+    (new ≡ old) × MatchOption (rows_in old) ((after ≡ before) × (code ≡ 6))
+    (λ r. (after ≡ telling r.reason before) × (code ≡ r.answer))

@@ -1,26 +1,25 @@
 //! The calls of the C library, each over a stream in memory.
 //!
 //! They keep no state and share nothing: each reads its stream from the start, writes only through
-//! its arguments, and has freed all of its memory when it returns. Only those that give the lines
-//! of a picture one by one go on with a reader, which `begin_rows` keeps for them in `Kept`, and
-//! `end_rows` lets go. The number that a call returns is one of `bindings/c/zaxbriar.h`: 0 OK,
-//! 1 MALFORMED, 2 UNSUPPORTED, 3 TRUNCATED, 4 NO_MEMORY, 5 NO_ROOM, 6 BAD_ARGUMENT, 7 NO_DATA,
-//! 8 TOO_LARGE, 9 PARTIAL, 10 TOO_MANY_PASSES, 11 END.
-ghost use Rattle.std.specs.Prelude.{◌≡◌};
-ghost use Rattle.std.specs.declared.option.Option.TheVariants.{None};
+//! its arguments, and has freed all of its memory when it returns. (`handle_calls` has those that
+//! go on with what another call has begun.) The number that a call returns is one of
+//! `bindings/c/zaxbriar.h`: 0 OK, 1 MALFORMED, 2 UNSUPPORTED, 3 TRUNCATED, 4 NO_MEMORY, 5 NO_ROOM,
+//! 6 BAD_ARGUMENT, 7 NO_DATA, 8 TOO_LARGE, 9 PARTIAL, 10 TOO_MANY_PASSES, 11 END.
+ghost use Rattle.std.specs.Prelude.{◌≡◌, ℕ, List};
 ghost use Rattle.zaxbriar_calls.specs.CopiesJoined.{CopiesJoined};
 ghost use Rattle.zaxbriar_calls.specs.CopiesMetadata.{CopiesMetadata};
 ghost use Rattle.zaxbriar_calls.specs.Fills.{Fills};
 ghost use Rattle.zaxbriar_calls.specs.FindsSegment.{FindsSegment};
+ghost use Rattle.zaxbriar_calls.specs.Meanings.{no_picture};
+ghost use Rattle.zaxbriar_calls.specs.Outcomes.{DecodesInto};
 ghost use Rattle.zaxbriar_calls.specs.Passes.{is_whole};
 ghost use Rattle.zaxbriar_calls.specs.Places.{places_of};
 ghost use Rattle.zaxbriar_calls.specs.ReadsInfo.{ReadsInfo};
-ghost use Rattle.zaxbriar_calls.specs.TakenLines.{BeginsReading, Keeps, TakesNext, TellsRefusal};
 ghost use Rattle.zaxbriar_calls.specs.declared.extents.Extent.TheVariants.{Whole, Partial};
 ghost use Rattle.zaxbriar_calls.specs.declared.extents.Extent.TheVariants.{Planes};
 
 use crate::answers::{
-    BAD_ARGUMENT, MALFORMED, Misuse, NO_MEMORY, OK, Refusal, TRUNCATED, answer, outcome_fault,
+    BAD_ARGUMENT, MALFORMED, NO_MEMORY, OK, Refusal, TRUNCATED, answer, outcome_fault,
     outcome_rows, with_passes,
 };
 use crate::decode::decode_into;
@@ -28,15 +27,12 @@ use crate::description::describe_stream;
 use crate::extents::Extent;
 use crate::features::outcome_feature;
 use crate::joined::{is_joined_kind, read_joined};
-use crate::kept::Kept;
 use crate::metadata::{is_no_kind, read_metadata};
 use crate::options::Options;
 use crate::picture::{NO_PICTURE, Picture};
 use crate::places::{Places, find_places};
-use crate::rows::{RowReader, are_for_rows, begin};
 use crate::segments::{NO_SEGMENT, Segment, ends_by_ff, next_marker, payload_after, payload_needs};
 use std::alloc::Global;
-use std::mem::replace;
 
 /// Describes the picture of a stream, by its header.
 pub fn read_info(alloc: Global, jpeg: &[u8], options: &Options, picture: &mut Picture) -> u32
@@ -61,6 +57,27 @@ fn is_whole(extent: Extent) -> bool
     }
 }
 
+/// Tells of the outcome of a decode in the picture that it has described, and returns its number.
+pub(crate) fn tell(
+    alloc: Global,
+    outcome: std::result::Result<u16, Refusal>,
+    exceeded: bool,
+    extent: Extent,
+    picture: &mut Picture,
+) -> u32
+    ensures { (o : Options) (bytes before after : List ℕ)
+        → DecodesInto extent o bytes before after no_picture picture.old outcome exceeded
+        → Fills extent o bytes before after picture.new result }
+{
+    let feature = outcome_feature(&outcome);
+    picture.feature = feature.number;
+    picture.feature_argument = feature.argument;
+    picture.fault = with_passes(exceeded, outcome_fault(&outcome)) as u8;
+    picture.whole_rows = u32::from(outcome_rows(&outcome));
+    let code = answer(alloc, outcome, &mut picture.text);
+    with_passes(exceeded && is_whole(extent), code)
+}
+
 /// Decodes what is asked for of a stream into `pixels`, and describes it.
 fn fill(
     alloc: Global,
@@ -74,13 +91,7 @@ fn fill(
 {
     *picture = NO_PICTURE;
     let (outcome, exceeded) = decode_into(alloc, jpeg, options, pixels, picture, extent);
-    let feature = outcome_feature(&outcome);
-    picture.feature = feature.number;
-    picture.feature_argument = feature.argument;
-    picture.fault = with_passes(exceeded, outcome_fault(&outcome)) as u8;
-    picture.whole_rows = u32::from(outcome_rows(&outcome));
-    let code = answer(alloc, outcome, &mut picture.text);
-    with_passes(exceeded && is_whole(extent), code)
+    tell(alloc, outcome, exceeded, extent, picture)
 }
 
 /// Decodes a stream into `pixels`.
@@ -206,84 +217,4 @@ pub fn find_metadata(jpeg: &[u8], places: &mut Places)
     ensures { places.new ≡ places_of jpeg.now }
 {
     find_places(jpeg, places);
-}
-
-/// Keeps a reader of lines, unless there is none.
-fn keep(
-    alloc: Global,
-    begun: std::result::Result<Box<RowReader>, Refusal>,
-    kept: &mut Kept,
-) -> std::result::Result<(), Refusal>
-    ensures { Keeps begun result kept.new.value }
-{
-    match begun {
-        Ok(reader) => {
-            let _before = replace(kept, Kept::of(reader)).into_box();
-            Ok(())
-        }
-        Err(refusal) => {
-            let _before = replace(kept, Kept::none(alloc)).into_box();
-            Err(refusal)
-        }
-    }
-}
-
-/// Describes the picture of a stream as `read_info` does, and begins to give its lines: keeps a
-/// reader of them after OK, and after any other result none.
-pub fn begin_rows(
-    alloc: Global,
-    jpeg: &'static [u8],
-    options: &Options,
-    kept: &mut Kept,
-    picture: &mut Picture,
-) -> u32
-    ensures { BeginsReading options.now jpeg.now picture.new result kept.new.value }
-{
-    *picture = NO_PICTURE;
-    if !are_for_rows(options) {
-        end_rows(alloc, kept);
-        let misuse = Misuse::Of("an option doesn't exist, or not for lines as they come");
-        let unknown: std::result::Result<(), Refusal> = Err(Refusal::Argument(misuse));
-        return answer(alloc, unknown, &mut picture.text);
-    }
-    let begun = begin(alloc, jpeg, options, picture);
-    let outcome = keep(alloc, begun, kept);
-    let feature = outcome_feature(&outcome);
-    picture.feature = feature.number;
-    picture.feature_argument = feature.argument;
-    answer(alloc, outcome, &mut picture.text)
-}
-
-/// Writes the next line of the reader that is kept, and returns OK; or END after the last, or why
-/// the stream is refused. Where none is kept, it is BAD_ARGUMENT.
-pub fn next_row(alloc: Global, kept: &mut Kept, line: &mut [u8]) -> u32
-    ensures { TakesNext kept.old.value kept.new.value line.old line.new result }
-{
-    let Some(mut reader) = replace(kept, Kept::none(alloc)).into_box() else {
-        return BAD_ARGUMENT;
-    };
-    let code = reader.next_line(alloc, line);
-    let _none = replace(kept, Kept::of(reader)).into_box();
-    code
-}
-
-/// Writes why the stream of the reader that is kept was refused into a picture, or nothing unless
-/// it was, and returns the number of that refusal, or END after the last line, or OK before. Where
-/// none is kept, it is BAD_ARGUMENT.
-pub fn tell_refusal(alloc: Global, kept: &mut Kept, picture: &mut Picture) -> u32
-    ensures { TellsRefusal kept.old.value kept.new.value picture.old picture.new result }
-{
-    let Some(reader) = replace(kept, Kept::none(alloc)).into_box() else {
-        return BAD_ARGUMENT;
-    };
-    let code = reader.tell_refusal(picture);
-    let _none = replace(kept, Kept::of(reader)).into_box();
-    code
-}
-
-/// Lets the reader go, if one is kept.
-pub fn end_rows(alloc: Global, kept: &mut Kept)
-    ensures { kept.new.value ≡ None }
-{
-    let _reader = replace(kept, Kept::none(alloc)).into_box();
 }

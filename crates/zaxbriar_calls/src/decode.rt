@@ -6,7 +6,9 @@ ghost use Rattle.std.specs.List.{concat};
 ghost use Rattle.jpeg_bits.specs.Reading.{Answers, Fault, IsGivenUp};
 ghost use Rattle.jpeg_bits.specs.declared.error.Error.TheVariants.{OutOfMemory};
 ghost use Rattle.jpeg_decoder.specs.Bytes.{AreLinesOf, IsCounted, decoding_bytes, shape_in};
+ghost use Rattle.jpeg_decoder.specs.Shows.{CountsRows, Shows};
 ghost use Rattle.jpeg_meaning.specs.Pixels.{info_by};
+ghost use Rattle.jpeg_meaning.specs.Shown.{whole_rows_rest};
 ghost use Rattle.jpeg_meaning.specs.Stream.{header_at, rest_by, told_of};
 ghost use Rattle.jpeg_meaning.specs.declared.progress.Progress.TheVariants.{HeaderRead};
 ghost use Rattle.zaxbriar_calls.specs.Crops.{part_rows};
@@ -16,7 +18,8 @@ ghost use Rattle.zaxbriar_calls.specs.Given.{Brings, CountsImage, EndsImage, Giv
 ghost use Rattle.zaxbriar_calls.specs.Given.{HasRows, KnowsExceeded, Reaches, given_by, given_rest};
 ghost use Rattle.zaxbriar_calls.specs.Given.{outcome_of, rows_by, rows_rest};
 ghost use Rattle.zaxbriar_calls.specs.Layouts.{size_of_lines};
-ghost use Rattle.zaxbriar_calls.specs.Outcomes.{Continues, DecodesInto, room_of};
+ghost use Rattle.zaxbriar_calls.specs.Outcomes.{Continues, DecodesInto, DecodesLines, room_of};
+ghost use Rattle.zaxbriar_calls.specs.WrittenLines.{AreLinesFor, IsHeaderOf, WritesLines};
 ghost use Rattle.zaxbriar_calls.specs.Limits.{are_known_for};
 ghost use Rattle.zaxbriar_calls.specs.Lines.{HasLines};
 ghost use Rattle.zaxbriar_calls.specs.Meanings.{AreWrong, CountsRead, IsTooLarge, IsWithin};
@@ -39,8 +42,8 @@ use crate::lines::{Lines, band_of, given_size, put_lines, size_of_lines, stored_
 use crate::options::{Options, are_known_for};
 use crate::picture::Picture;
 use crate::planes::{fit_in, put_planes};
-use jpeg_decoder::error::Error;
-use jpeg_decoder::{Decoder, PartialLines};
+use jpeg_decoder::error::{Error, Result};
+use jpeg_decoder::{Decoder, FedDecoder, PartialLines, SliceReader};
 use std::alloc::Global;
 use std::io::Read;
 
@@ -66,10 +69,38 @@ fn stream_fault<R: Read + Drop>(
     }
 }
 
-/// Reads the rest of a stream as far as it goes, and returns its lines, how many of them are
-/// complete, and its first fault.
-fn read_part<R: Read + Drop>(decoder: &mut Decoder<R>) -> std::result::Result<PartialLines, Refusal>
+/// Reads the rest of a stream as far as it goes: after what its bytes that were fed have brought
+/// once and for all, if there are such.
+fn show_part<'a>(
+    decoder: &mut Decoder<SliceReader<'a>>,
+    fed: Option<&'a FedDecoder>,
+) -> Result<PartialLines>
     requires read { decoder.old.stage ≡ HeaderRead }
+    requires fed { IfSome fed (λ f. IsHeaderOf f.now.bytes decoder.old) }
+    ensures shows { Shows (λ p. concat p.lines) (λ p. p.fault) decoder.old result decoder.new }
+    ensures rows { CountsRows (λ p. p.whole_rows)
+        (whole_rows_rest decoder.old.settings.max_blocks decoder.old.found) decoder.old.source
+        result decoder.new.source }
+    ensures settings { decoder.new.settings ≡ decoder.old.settings }
+    ensures stays { OnOk result (decoder.new.found.said.frame ≡ decoder.old.found.said.frame) }
+    ensures lines { IfOk result (λ p. AreLinesOf (shape_in decoder.new) p.lines) }
+    ensures counted { IfOk result (λ _. IsCounted (shape_in decoder.new)) }
+{
+    match fed {
+        Some(fed) => fed.show_lines_by(decoder),
+        None => decoder.decode_partial_lines(),
+    }
+}
+
+/// Reads the rest of a stream as far as it goes, and returns its lines, how many of them are
+/// complete, and its first fault: after what its bytes that were fed have brought once and for all,
+/// if there are such.
+pub fn read_part<'a>(
+    decoder: &mut Decoder<SliceReader<'a>>,
+    fed: Option<&'a FedDecoder>,
+) -> std::result::Result<PartialLines, Refusal>
+    requires read { decoder.old.stage ≡ HeaderRead }
+    requires fed { IfSome fed (λ f. IsHeaderOf f.now.bytes decoder.old) }
     ensures stays { IfOk result
         (λ _. decoder.new.found.said.frame ≡ decoder.old.found.said.frame) }
     ensures settings { decoder.new.settings ≡ decoder.old.settings }
@@ -88,7 +119,7 @@ fn read_part<R: Read + Drop>(decoder: &mut Decoder<R>) -> std::result::Result<Pa
         result decoder.new.exceeded }
     ensures own { IfErr result IsOfDecoder }
 {
-    match decoder.decode_partial_lines() {
+    match show_part(decoder, fed) {
         Ok(partial) => match stream_fault(decoder, partial.fault) {
             Ok(fault) => Ok(PartialLines {
                 lines: partial.lines,
@@ -169,8 +200,8 @@ fn read_planes<R: Read + Drop>(
 
 /// Reads the rest of a stream, all of it, or, in part, as far as it goes, and returns its lines,
 /// how many of them are complete in part, and its first fault.
-fn read_lines<R: Read + Drop>(
-    decoder: &mut Decoder<R>,
+fn read_lines(
+    decoder: &mut Decoder<SliceReader<'_>>,
     extent: Extent,
 ) -> std::result::Result<PartialLines, Refusal>
     requires read { decoder.old.stage ≡ HeaderRead }
@@ -196,7 +227,7 @@ fn read_lines<R: Read + Drop>(
 {
     match extent {
         Extent::Whole => read_whole(decoder),
-        Extent::Partial => read_part(decoder),
+        Extent::Partial => read_part(decoder, None),
         Extent::Planes => unreachable!(),
     }
 }
@@ -211,11 +242,33 @@ fn outcome_of(whole_rows: u16, fault: Option<Error>) -> std::result::Result<u16,
     }
 }
 
+/// Writes the lines that were read of a picture to their places in the caller's memory. Returns how
+/// many rows of a part are complete. The only refusal but for the fault of a part is `OutOfMemory`.
+pub fn write_lines(
+    alloc: Global,
+    decoded: PartialLines,
+    lines: Lines,
+    pixels: &mut [u8],
+) -> std::result::Result<u16, Refusal>
+    requires picture { AreLinesFor lines decoded.lines }
+    requires room { size_of_lines lines.stride lines.row_bytes lines.height ≤ length pixels.old }
+    ensures { WritesLines lines decoded result pixels.old pixels.new }
+{
+    // After a refusal the caller's memory is as it was, so all memory is taken before.
+    let mut row = stored_line(alloc, lines)?;
+    let mut band = band_of(alloc, lines)?;
+    let part = part_lines(alloc, decoded.lines, lines.part, lines.stored)?;
+    let (info, size) = (lines.info, given_size(lines));
+    let mut picture = fit_lines(alloc, part, info, lines.precision, size, lines.stored)?;
+    put_lines(&mut picture, lines, &mut row, &mut band, pixels);
+    outcome_of(part_rows(lines.part, decoded.whole_rows), decoded.fault)
+}
+
 /// Decodes the picture whose header was read, or the part of it that the stream brings, into its
 /// lines in the caller's memory. Returns how many rows of a part are complete.
-fn decode_lines<R: Read + Drop>(
+fn decode_lines(
     alloc: Global,
-    decoder: &mut Decoder<R>,
+    decoder: &mut Decoder<SliceReader<'_>>,
     header: Header,
     lines: Lines,
     pixels: &mut [u8],
@@ -233,30 +286,11 @@ fn decode_lines<R: Read + Drop>(
     requires lines { (options : Options) × (orientation : ℕ)
         × HasLines options header.info header.precision orientation lines }
     requires room { size_of_lines lines.stride lines.row_bytes lines.height ≤ length pixels.old }
-    ensures reaches { decoder.old.source.known ≡ true
-        → Reaches extent lines result decoder.old decoder.new pixels.old pixels.new }
-    ensures rows { decoder.old.source.known ≡ true
-        → HasRows (part_rows lines.part (rows_rest extent decoder.old.settings decoder.old.found
-        decoder.old.source.bytes)) result }
-    ensures named { decoder.old.source.known ≡ true → IfErr result (IsFault
-        (given_rest extent decoder.old.settings decoder.old.found decoder.old.source.bytes)) }
-    ensures exceeded { decoder.old.source.known ≡ true → KnowsExceeded
-        (exceeds_rest extent decoder.old.settings decoder.old.found decoder.old.source.bytes)
-        result decoder.new.exceeded }
-    ensures kept { IfErr result (λ r. (IsPart r → ⊥) → pixels.new ≡ pixels.old) }
-    ensures own { IfErr result IsOfReading }
+    ensures { DecodesLines extent (size_of_lines lines.stride lines.row_bytes lines.height) lines
+        result decoder.old decoder.new pixels.old pixels.new }
 {
-    // After a refusal the caller's memory is as it was, so all memory is taken before.
-    let mut row = stored_line(alloc, lines)?;
-    let mut band = band_of(alloc, lines)?;
     match read_lines(decoder, extent) {
-        Ok(decoded) => {
-            let part = part_lines(alloc, decoded.lines, lines.part, lines.stored)?;
-            let (info, size) = (lines.info, given_size(lines));
-            let mut picture = fit_lines(alloc, part, info, lines.precision, size, lines.stored)?;
-            put_lines(&mut picture, lines, &mut row, &mut band, pixels);
-            outcome_of(part_rows(lines.part, decoded.whole_rows), decoded.fault)
-        }
+        Ok(decoded) => write_lines(alloc, decoded, lines, pixels),
         Err(refusal) => Err(refusal),
     }
 }
@@ -294,9 +328,9 @@ fn decode_planes<R: Read + Drop>(
 
 /// Decodes what is asked for of the picture whose header was read into the caller's memory. Returns
 /// how many rows of a part are complete.
-fn decode_asked<R: Read + Drop>(
+fn decode_asked(
     alloc: Global,
-    decoder: &mut Decoder<R>,
+    decoder: &mut Decoder<SliceReader<'_>>,
     header: Header,
     lines: Lines,
     pixels: &mut [u8],
@@ -333,7 +367,7 @@ fn decode_asked<R: Read + Drop>(
 }
 
 /// Returns how many bytes of the caller's memory are needed for what is asked for.
-fn room_of(extent: Extent, header: Header, lines: Lines) -> u64
+pub fn room_of(extent: Extent, header: Header, lines: Lines) -> u64
     requires row { lines.row_bytes ≤ lines.stride }
     requires stride { lines.stride ≤ 4294967296 }
     ensures { result ≡ room_of extent header lines }
@@ -347,9 +381,9 @@ fn room_of(extent: Extent, header: Header, lines: Lines) -> u64
 /// Decodes what is asked for of a picture that was described into the caller's memory, if it has
 /// room for it. Returns how many rows of a part are complete, or why the picture is refused, as it
 /// was before.
-fn decode_described<R: Read + Drop>(
+fn decode_described(
     alloc: Global,
-    decoder: &mut Decoder<R>,
+    decoder: &mut Decoder<SliceReader<'_>>,
     described: std::result::Result<(Header, Lines), Refusal>,
     pixels: &mut [u8],
     extent: Extent,
@@ -374,7 +408,7 @@ fn decode_described<R: Read + Drop>(
 }
 
 /// Returns what is wrong with options that don't exist for what is asked for.
-fn misuse_of(extent: Extent) -> Misuse {
+pub fn misuse_of(extent: Extent) -> Misuse {
     match extent {
         Extent::Planes => Misuse::Of(
             "an option doesn't exist, or not for planes, which are given as they are coded",

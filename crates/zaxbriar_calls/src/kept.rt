@@ -1,26 +1,26 @@
-//! A reader of lines that a C program keeps between two calls.
+//! A handle that a C program keeps between two calls.
 ghost use Rattle.std.specs.Option.{MatchOption};
 ghost use Rattle.std.specs.Prelude.{◌≡◌};
 ghost use Rattle.std.specs.declared.option.Option.{Option};
 ghost use Rattle.std.specs.declared.option.Option.TheVariants.{None, Some};
 ghost use Rattle.zaxbriar_calls.specs.Kept.{kept_owns};
-ghost use Rattle.zaxbriar_calls.specs.declared.rows.RowReader.{RowReader};
+ghost use Rattle.zaxbriar_calls.specs.declared.handle.Handle.{Handle};
 
+use crate::handle::Handle;
 use crate::loose::Loose;
-use crate::rows::RowReader;
 use std::alloc::Global;
 use std::marker::{Model, Send};
 
-/// No reader, which is all zeros, or a reader on the heap.
+/// No handle, which is all zeros, or a handle on the heap.
 ///
-/// C has the two words, and never looks inside. It owns the reader as Rust owns a box: it hands on
+/// C has the two words, and never looks inside. It owns the handle as Rust owns a box: it hands on
 /// the words as the last call left them, and uses no copy of them afterwards.
 #[repr(C)]
 pub struct Kept {
     at: *mut u8,
     used: u64,
     alloc: Global,
-    pub ghost value: { Option RowReader },
+    pub ghost value: { Option Handle },
 }
 
 impl Model for Kept {
@@ -28,15 +28,15 @@ impl Model for Kept {
 }
 
 impl Kept {
-    /// Keeps a reader.
-    pub fn of(reader: Box<RowReader>) -> Kept
-        ensures { result.value ≡ Some reader.value }
+    /// Keeps a handle.
+    pub fn of(handle: Box<Handle>) -> Kept
+        ensures { result.value ≡ Some handle.value }
     {
-        Kept::of_loose(Loose::of(reader))
+        Kept::of_loose(Loose::of(handle))
     }
 
     /// Returns what is kept.
-    pub fn into_box(self) -> Option<Box<RowReader>>
+    pub fn into_box(self) -> Option<Box<Handle>>
         ensures { MatchOption result (self.value ≡ None) (λ b. self.value ≡ Some b.value) }
     {
         match self.into_loose() {
@@ -56,8 +56,8 @@ impl Kept {
         }
     }
 
-    /// Keeps the reader behind a pointer.
-    fn of_loose(loose: Loose<RowReader, Global>) -> Kept
+    /// Keeps the handle behind a pointer.
+    fn of_loose(loose: Loose<Handle, Global>) -> Kept
         ensures { result.value ≡ Some loose.value }
     {
         let Loose { at, alloc } = loose;
@@ -69,13 +69,13 @@ impl Kept {
     }
 
     /// Returns the pointer to what is kept.
-    fn into_loose(self) -> Option<Loose<RowReader, Global>>
+    fn into_loose(self) -> Option<Loose<Handle, Global>>
         ensures { MatchOption result (self.value ≡ None) (λ l. self.value ≡ Some l.value) }
     {
         let Kept { at, used, alloc } = self;
         if used == 1 {
             Some(Loose {
-                at: at as *mut RowReader,
+                at: at as *mut Handle,
                 alloc,
             })
         } else {
@@ -84,7 +84,7 @@ impl Kept {
     }
 }
 
-/// It may go to another thread, as its reader may.
+/// It may go to another thread, as its handle may.
 unsafe impl Send for Kept {}
 
 /// Takes a value to another thread.
@@ -94,7 +94,7 @@ fn moves<T: Send>(value: T) -> T
     value
 }
 
-/// Takes a reader to another thread, which is allowed: a claim of `Send` is proved where it is
+/// Takes a handle to another thread, which is allowed: a claim of `Send` is proved where it is
 /// needed, as here.
 pub fn moved(kept: Kept) -> Kept
     ensures { result.value ≡ kept.value }

@@ -1,7 +1,8 @@
 //! What the C library does, as a library: the calls of `bindings/c/zaxbriar.h` over streams
 //! in memory.
 //!
-//! `calls` has them. The crate `zaxbriar` exports each under its name in C, and does nothing else.
+//! `calls` has those that keep no state, and `handle_calls` the others. The crate `zaxbriar`
+//! exports each under its name in C, and does nothing else.
 #![tactic(auto)]
 
 mod answers;
@@ -16,6 +17,9 @@ pub mod density;
 mod description;
 pub mod extents;
 mod features;
+pub mod fed;
+pub mod handle;
+pub mod handle_calls;
 mod header;
 mod joined;
 pub mod kept;

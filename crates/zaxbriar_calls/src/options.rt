@@ -8,7 +8,8 @@ ghost use Rattle.jpeg_meaning.specs.declared.progress.Progress.TheVariants.{Head
 ghost use Rattle.zaxbriar_calls.specs.Boxed.{is_fitted};
 ghost use Rattle.zaxbriar_calls.specs.Crops.{is_cropped};
 ghost use Rattle.zaxbriar_calls.specs.Limits.{are_as_coded, are_known, are_known_for};
-ghost use Rattle.zaxbriar_calls.specs.Limits.{blocks_of_passes, is_denominator, is_rest_zero};
+ghost use Rattle.zaxbriar_calls.specs.Limits.{blocks_of_passes, is_denominator, is_full_size};
+ghost use Rattle.zaxbriar_calls.specs.Limits.{is_rest_zero};
 ghost use Rattle.zaxbriar_calls.specs.Meanings.{least_side, scale_by, settings_at, settings_of};
 ghost use Rattle.zaxbriar_calls.specs.Meanings.{number_of_transform, size_wanted};
 ghost use Rattle.zaxbriar_calls.specs.Meanings.{transform_number};
@@ -150,6 +151,13 @@ pub fn is_fitted(options: &Options) -> bool
     ensures { result ≡ is_fitted options.now }
 {
     options.most_width != 0 || options.most_height != 0
+}
+
+/// Returns whether the picture is to have its full size, whatever that is.
+pub fn is_full_size(options: &Options) -> bool
+    ensures { result ≡ is_full_size options.now }
+{
+    options.scale == 0 && (options.min_width == 0 && options.min_height == 0)
 }
 
 /// Returns whether all options exist whatever the picture is.

@@ -3,7 +3,6 @@ ghost use Rattle.std.specs.Prelude.{◌≡◌, ◌+◌, ◌<◌, ◌≤◌, ℕ,
 ghost use Rattle.std.specs.Prelude.{length, true};
 ghost use Rattle.jpeg_decoder.specs.Rows.{calls_left, lines_in};
 ghost use Rattle.jpeg_meaning.specs.States.{Decoding};
-ghost use Rattle.zaxbriar_calls.specs.Meanings.{no_picture};
 ghost use Rattle.zaxbriar_calls.specs.Outcomes.{DescribesStream};
 ghost use Rattle.zaxbriar_calls.specs.TakenLines.{AreTaken, BeginsRows, PutsLine, ReachesLine};
 ghost use Rattle.zaxbriar_calls.specs.TakenLines.{SaysWhy, TakesLine, are_for_rows, is_plain};
@@ -16,7 +15,7 @@ use crate::density::density_of;
 use crate::description::describe;
 use crate::features::{Feature, outcome_feature};
 use crate::options::{Options, are_known, is_cropped, is_fitted};
-use crate::picture::{NO_PICTURE, Picture};
+use crate::picture::Picture;
 use jpeg_decoder::error::{Error, Result};
 use jpeg_decoder::{Rows, SliceReader};
 use std::alloc::Global;
@@ -73,7 +72,7 @@ pub fn are_for_rows(options: &Options) -> bool
 }
 
 /// Reads the header of a stream, and describes its picture, whose lines lie ahead then.
-fn begin_known(
+pub fn begin(
     alloc: Global,
     jpeg: &'static [u8],
     options: &Options,
@@ -96,28 +95,6 @@ fn begin_known(
             reason: NO_REASON,
         }),
         Err(refusal) => Err(refusal),
-    }
-}
-
-/// The same on the heap. A picture for whose reader there is no memory isn't described.
-pub fn begin(
-    alloc: Global,
-    jpeg: &'static [u8],
-    options: &Options,
-    picture: &mut Picture,
-) -> std::result::Result<Box<RowReader>, Refusal>
-    requires known { are_for_rows options.now ≡ true }
-    requires none { picture.old ≡ no_picture }
-    ensures described { DescribesStream options.now jpeg.now no_picture picture.new result }
-    ensures begins { IfOk result (λ b. BeginsRows options.now jpeg.now picture.new b.value) }
-{
-    let reader = begin_known(alloc, jpeg, options, picture)?;
-    match Box::new(alloc, reader) {
-        Ok(reader) => Ok(reader),
-        Err(_) => {
-            *picture = NO_PICTURE;
-            Err(Refusal::Stream(Error::OutOfMemory))
-        }
     }
 }
 

@@ -22,7 +22,7 @@ use Rattle.std.proofs.raw_atomic.Walks.{proved_at, leaves}
 use Rattle.std.specs.contracts.alloc.Global as heap
 use Rattle.std.proofs.alloc.Global.TheLaws as heap_laws
 use Rattle.std.specs.contracts.impls.GlobalAllocator.TheImpl.{ghosts}
-use Rattle.zaxbriar_calls.specs.contracts.rows.RowReader as state
+use Rattle.zaxbriar_calls.specs.contracts.handle.Handle as state
 use Rattle.zaxbriar_calls.proofs.LooseValues.{both, Loose, loose_good, loose_in}
 use Rattle.std.specs.declared.option.Option.TheVariants.{None, Some}
 use types.Match.{live}

@@ -5,7 +5,7 @@ use Rattle.zaxbriar_calls.proofs.PlainLines.{header-line, none-taken}
 use Rattle.zaxbriar_calls.proofs.TakenSteps.{described-err, described-ok}
 use Rattle.zaxbriar_calls.specs.Limits.{are_known}
 use Rattle.zaxbriar_calls.specs.TakenLines.{is_plain}
-use Rattle.zaxbriar_calls.proofs.rows.begin_known.Goals as goal
+use Rattle.zaxbriar_calls.proofs.rows.begin.Goals as goal
 
 pub returns-in-Err-clause-described : goal.returns-in-Err-clause-described
 returns-in-Err-clause-described c =

@@ -1,0 +1,12 @@
+//! What a C program holds from one call to the next.
+use crate::fed::FedStream;
+use crate::rows::RowReader;
+
+/// What a call goes on with that another one has begun.
+#[derive(Drop)]
+pub enum Handle {
+    /// A picture that is given line by line.
+    Rows(RowReader),
+    /// A stream that arrives in pieces.
+    Stream(FedStream),
+}
