@@ -5,11 +5,17 @@
 #include <string.h>
 #include <zaxbriar.h>
 
-/* How many times the scans of a file may code the blocks of its picture. */
-enum { MAX_PASSES = 100 };
+enum {
+    /* How many times the scans of a file may code the blocks of its picture. */
+    MAX_PASSES = 100,
+    /* How many microseconds pass at least before a picture is shown that isn't whole. */
+    PAUSE = 100000
+};
 
 /* A file that is being loaded: the bytes that have come, with how many of them the header is read
- * next, and the size that the program wants, if it was asked. */
+ * or the picture shown next, and the size that the program wants, if it was asked. Then the
+ * picture, how it is decoded, and what shows it while bytes come: how many it was fed, and when it
+ * shows it next at the earliest. */
 typedef struct {
     GdkPixbufModuleSizeFunc size_known;
     GdkPixbufModulePreparedFunc prepared;
@@ -19,6 +25,11 @@ typedef struct {
     size_t size, room, next;
     int width, height;
     gboolean is_asked;
+    GdkPixbuf *pixbuf;
+    zaxbriar_options options;
+    zaxbriar_fed *fed;
+    size_t fed_size;
+    gint64 time;
 } load;
 
 static gboolean refuse(GError **error, zaxbriar_result answer, const char *text) {
@@ -50,31 +61,32 @@ static gboolean describe(load *state, GError **error) {
 
 /* Describes the picture at the least scale that is as large as the program wants, without the
  * columns and rows of which the picture has only a part. */
-static gboolean choose_scale(const load *state, zaxbriar_options *options,
-                             zaxbriar_picture *picture, GError **error) {
+static gboolean choose_scale(load *state, zaxbriar_picture *picture, GError **error) {
     uint32_t width = (uint32_t)state->width, height = (uint32_t)state->height;
+    uint8_t scale = 8;
     zaxbriar_result answer = zaxbriar_read_info(state->jpeg, state->size, NULL, picture);
-    options->scale = 8;
-    while (options->scale > 1 && (picture->width / options->scale < width ||
-                                  picture->height / options->scale < height))
-        options->scale /= 2;
+    while (scale > 1 && (picture->width / scale < width || picture->height / scale < height))
+        scale /= 2;
+    /* (with a scale, zaxbriar_fed_show reads all bytes each time) */
+    if (scale > 1) state->options.scale = scale;
     if (answer == ZAXBRIAR_OK)
-        answer = zaxbriar_read_info(state->jpeg, state->size, options, picture);
+        answer = zaxbriar_read_info(state->jpeg, state->size, &state->options, picture);
     return answer == ZAXBRIAR_OK || refuse(error, answer, picture->text);
 }
 
 /* Decodes a picture, or the part of one before a fault, as GdkPixbuf's own loader does. */
-static gboolean decode(const load *state, const zaxbriar_options *options, GdkPixbuf *pixbuf,
-                       zaxbriar_picture *picture, GError **error) {
+static gboolean decode(const load *state, GError **error) {
+    zaxbriar_picture picture;
     guint room;
-    guchar *pixels = gdk_pixbuf_get_pixels_with_length(pixbuf, &room);
+    guchar *pixels = gdk_pixbuf_get_pixels_with_length(state->pixbuf, &room);
     zaxbriar_result answer =
-        zaxbriar_decode(state->jpeg, state->size, options, pixels, room, picture);
+        zaxbriar_decode(state->jpeg, state->size, &state->options, pixels, room, &picture);
     if (answer == ZAXBRIAR_MALFORMED || answer == ZAXBRIAR_UNSUPPORTED ||
         answer == ZAXBRIAR_TRUNCATED || answer == ZAXBRIAR_TOO_MANY_PASSES)
-        answer = zaxbriar_decode_partial(state->jpeg, state->size, options, pixels, room, picture);
+        answer = zaxbriar_decode_partial(state->jpeg, state->size, &state->options, pixels, room,
+                                         &picture);
     if (answer == ZAXBRIAR_OK || answer == ZAXBRIAR_PARTIAL) return TRUE;
-    return refuse(error, answer, picture->text);
+    return refuse(error, answer, picture.text);
 }
 
 static void set_number(GdkPixbuf *pixbuf, const char *key, int number) {
@@ -83,15 +95,15 @@ static void set_number(GdkPixbuf *pixbuf, const char *key, int number) {
     gdk_pixbuf_set_option(pixbuf, key, text);
 }
 
-/* Sets the text of the first comment before the first scan, if there is one. */
-static void set_comment(const load *state, GdkPixbuf *pixbuf) {
+/* Sets the text of the first comment before the first scan, if there is one by now. */
+static void set_comment(const load *state) {
     zaxbriar_segment segment;
     size_t at = 0;
     while (zaxbriar_next_segment(state->jpeg + at, state->size - at, &segment) == ZAXBRIAR_OK &&
            segment.marker != 0xDA && segment.marker != 0xD9) {
         if (segment.marker == 0xFE) {
             char *text = g_strndup((const char *)state->jpeg + at + segment.offset, segment.size);
-            gdk_pixbuf_set_option(pixbuf, "comment", text);
+            gdk_pixbuf_set_option(state->pixbuf, "comment", text);
             g_free(text);
             return;
         }
@@ -100,10 +112,11 @@ static void set_comment(const load *state, GdkPixbuf *pixbuf) {
 }
 
 /* Sets the options that GdkPixbuf's own loader sets. */
-static void set_options(const load *state, const zaxbriar_picture *picture, GdkPixbuf *pixbuf) {
+static void set_options(const load *state, const zaxbriar_picture *picture) {
+    GdkPixbuf *pixbuf = state->pixbuf;
     double per_inch = picture->density_unit == ZAXBRIAR_PER_CENTIMETRE ? 2.54 : 1;
     size_t length = 0;
-    set_comment(state, pixbuf);
+    set_comment(state);
     if (picture->orientation > 1) set_number(pixbuf, "orientation", picture->orientation);
     if (picture->density_unit == ZAXBRIAR_PER_INCH ||
         picture->density_unit == ZAXBRIAR_PER_CENTIMETRE) {
@@ -123,25 +136,85 @@ static void set_options(const load *state, const zaxbriar_picture *picture, GdkP
     g_free(profile);
 }
 
-static gboolean load_pixels(load *state, GError **error) {
-    zaxbriar_options options = {.layout = ZAXBRIAR_RGB, .max_passes = MAX_PASSES};
+static void release(guchar *pixels, gpointer unused) {
+    (void)unused;
+    g_free(pixels);
+}
+
+/* A picture of zeros. (The system takes memory for a large one where it is written, which here is
+ * as late as with the bytes that gdk_pixbuf_new leaves as they are.) */
+static GdkPixbuf *new_pixbuf(gboolean has_alpha, int width, int height) {
+    int stride = (width * (has_alpha ? 4 : 3) + 3) / 4 * 4;
+    guchar *pixels = g_try_malloc0_n((gsize)height, (gsize)stride);
+    if (!pixels) return NULL;
+    return gdk_pixbuf_new_from_data(pixels, GDK_COLORSPACE_RGB, has_alpha, 8, width, height,
+                                    stride, release, NULL);
+}
+
+/* Makes the picture that the program gets, and gives it. */
+static gboolean prepare(load *state, GError **error) {
     zaxbriar_picture picture;
-    if (!choose_scale(state, &options, &picture, error)) return FALSE;
-    int width = (int)picture.width, height = (int)picture.height;
+    state->options = (zaxbriar_options){.layout = ZAXBRIAR_RGB, .max_passes = MAX_PASSES};
+    if (!choose_scale(state, &picture, error)) return FALSE;
     /* (GdkPixbuf's own loader gives cyan, magenta, yellow and black as opaque colours) */
     gboolean has_alpha = picture.format == ZAXBRIAR_FORMAT_CMYK;
-    if (has_alpha) options.layout = ZAXBRIAR_RGBA;
-    GdkPixbuf *pixbuf = gdk_pixbuf_new(GDK_COLORSPACE_RGB, has_alpha, 8, width, height);
-    if (!pixbuf) return refuse(error, ZAXBRIAR_NO_MEMORY, "out of memory");
-    options.stride = (uint64_t)gdk_pixbuf_get_rowstride(pixbuf);
-    gboolean is_decoded = decode(state, &options, pixbuf, &picture, error);
-    if (is_decoded) {
-        set_options(state, &picture, pixbuf);
-        if (state->prepared) state->prepared(pixbuf, NULL, state->loader);
-        if (state->updated) state->updated(pixbuf, 0, 0, width, height, state->loader);
-    }
-    g_object_unref(pixbuf);
-    return is_decoded;
+    if (has_alpha) state->options.layout = ZAXBRIAR_RGBA;
+    state->pixbuf = new_pixbuf(has_alpha, (int)picture.width, (int)picture.height);
+    if (!state->pixbuf) return refuse(error, ZAXBRIAR_NO_MEMORY, "out of memory");
+    state->options.stride = (uint64_t)gdk_pixbuf_get_rowstride(state->pixbuf);
+    set_options(state, &picture);
+    if (state->prepared) state->prepared(state->pixbuf, NULL, state->loader);
+    state->time = g_get_monotonic_time() + PAUSE;
+    return TRUE;
+}
+
+/* Whether a program sees updates before the last one. GdkPixbuf gives it none of a picture that it
+ * makes larger or smaller. */
+static gboolean is_seen(const load *state) {
+    return state->updated && gdk_pixbuf_get_width(state->pixbuf) == state->width &&
+           gdk_pixbuf_get_height(state->pixbuf) == state->height;
+}
+
+static void update(const load *state) {
+    if (state->updated)
+        state->updated(state->pixbuf, 0, 0, gdk_pixbuf_get_width(state->pixbuf),
+                       gdk_pixbuf_get_height(state->pixbuf), state->loader);
+}
+
+/* Has the bytes that have come shown in the picture. */
+static zaxbriar_result show_part(load *state) {
+    zaxbriar_result answer = ZAXBRIAR_OK;
+    guint room;
+    guchar *pixels = gdk_pixbuf_get_pixels_with_length(state->pixbuf, &room);
+    if (!state->fed) answer = zaxbriar_fed_new(&state->options, &state->fed);
+    if (answer == ZAXBRIAR_OK)
+        answer = zaxbriar_fed_feed(state->fed, state->jpeg + state->fed_size,
+                                   state->size - state->fed_size);
+    if (answer != ZAXBRIAR_OK) return answer;
+    state->fed_size = state->size;
+    return zaxbriar_fed_show(state->fed, pixels, room, NULL);
+}
+
+/* Shows the picture while its file comes, if it comes so slowly that somebody sees that: each time
+ * that there are twice as many bytes, and no sooner than the last time took. */
+static void show_if_due(load *state) {
+    gint64 begin = g_get_monotonic_time();
+    if (state->size < state->next || begin < state->time || !is_seen(state)) return;
+    zaxbriar_result answer = show_part(state);
+    if (answer == ZAXBRIAR_OK || answer == ZAXBRIAR_PARTIAL) update(state);
+    gint64 end = g_get_monotonic_time();
+    state->next = 2 * state->size;
+    state->time = end + MAX(PAUSE, end - begin);
+}
+
+static gboolean load_pixels(load *state, GError **error) {
+    zaxbriar_fed_free(state->fed);
+    state->fed = NULL;
+    if (!state->pixbuf && !prepare(state, error)) return FALSE;
+    if (!decode(state, error)) return FALSE;
+    set_comment(state);
+    update(state);
+    return TRUE;
 }
 
 static gpointer begin_load(GdkPixbufModuleSizeFunc size_known,
@@ -172,19 +245,22 @@ static gboolean load_increment(gpointer context, const guchar *bytes, guint coun
     }
     memcpy(state->jpeg + state->size, bytes, count);
     state->size += count;
+    if (state->pixbuf) show_if_due(state);
     if (state->is_asked || state->size < state->next) return TRUE;
     /* The program may only want to know the size. It is told as soon as the header is there. */
     zaxbriar_picture picture;
     state->next = 2 * state->size;
     if (zaxbriar_read_info(state->jpeg, state->size, NULL, &picture) == ZAXBRIAR_TRUNCATED)
         return TRUE;
-    return describe(state, error);
+    return describe(state, error) && prepare(state, error);
 }
 
 static gboolean stop_load(gpointer context, GError **error) {
     load *state = context;
     gboolean is_loaded = (state->is_asked || describe(state, error)) && state->width > 0 &&
                          state->height > 0 && load_pixels(state, error);
+    zaxbriar_fed_free(state->fed);
+    if (state->pixbuf) g_object_unref(state->pixbuf);
     g_free(state->jpeg);
     g_free(state);
     return is_loaded;

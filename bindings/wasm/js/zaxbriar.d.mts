@@ -9,7 +9,7 @@ export type Source =
     | ArrayBufferView
     | WebAssembly.Module;
 
-/** The bytes of a stream, of any realm. They are copied before anything is read. */
+/** The bytes of a stream, or of a piece, of any realm. They are copied before anything is read. */
 export type Bytes = ArrayBuffer | SharedArrayBuffer | ArrayBufferView;
 
 /**
@@ -311,6 +311,57 @@ export interface Rows extends IterableIterator<Data> {
     return(): IteratorResult<Data, undefined>;
 }
 
+/** The options of `showStream`: those of `feed`, and this one. */
+export interface ShowingOptions extends Options {
+    /**
+     * How many times as many bytes as at the last picture there are when the next one is shown:
+     * a number above 1. The default is 2.
+     */
+    growth?: number;
+}
+
+/** What `showStream` takes: pieces as they come, of any size. */
+export type Pieces = ReadableStream<Bytes> | AsyncIterable<Bytes> | Iterable<Bytes>;
+
+/**
+ * A stream that arrives in pieces. However it was cut, `info` and `show` answer as `readInfo` and
+ * as `decode` with `partial` do of all bytes that were fed. These, and what whole scans among them
+ * have brought, stay in the module's memory until `free`, or until the object is collected.
+ */
+export interface Fed {
+    /** How many bytes were fed. */
+    readonly byteLength: number;
+    /**
+     * Copies the next bytes, and reads nothing of them. A ZaxbriarError, which is NO_MEMORY, says
+     * that none were taken.
+     */
+    feed(piece: Bytes): void;
+    /** Describes the picture, by its header; null: the bytes end before that does. */
+    info(): Picture | null;
+    /**
+     * Decodes what the bytes bring. `fault` is TRUNCATED while they end before the image does; any
+     * other, or null, is final: bytes that follow change nothing. Throws a ZaxbriarError where the
+     * header isn't there, too, which is TRUNCATED while it may come.
+     *
+     * Each whole scan is read once, by the first call after it has arrived, and the scan in which
+     * the bytes end by each call; and each call makes all pixels. So show a picture once the bytes
+     * have doubled, say, and not for each small piece. With `scale`, `minWidth` or `minHeight` each
+     * call reads all bytes.
+     */
+    show(): PartialPicture;
+    /** Frees what the stream takes in the module's memory. Other calls throw an Error then. */
+    free(): void;
+    /** The same, at the end of a block: `using fed = zaxbriar.feed()`. */
+    [Symbol.dispose](): void;
+}
+
+declare global {
+    // (TypeScript has it since 5.2, where the program asks for it)
+    interface SymbolConstructor {
+        readonly dispose: unique symbol;
+    }
+}
+
 /** Compiles the module, for several decoders; by default the one that lies beside zaxbriar.mjs. */
 export function compile(source?: Source | Promise<Source>): Promise<WebAssembly.Module>;
 
@@ -366,6 +417,31 @@ export class Zaxbriar {
      * a call that traps, ends them: `next` then throws an Error.
      */
     rows(jpeg: Bytes, options?: RowsOptions): Rows;
+
+    /**
+     * Takes a stream in pieces, and shows at any time the picture of what has arrived. The limits
+     * are those of `decode`; `maxMemory` also bounds how many bytes are taken.
+     *
+     * Several streams can be fed at a time, and other calls made in between, but `reset`, or
+     * a call that traps, ends them: their calls then throw an Error.
+     */
+    feed(options?: Options): Fed;
+
+    /**
+     * Shows a picture while it arrives: `for await (const { picture, pixels, fault } of
+     * zaxbriar.showStream(response.body)) {..}`. The first one comes once the header is there, and
+     * others each time that there are `growth` times as many bytes. The last one is that of all
+     * bytes. It comes earlier if the image ends before the stream, or has a fault other than its
+     * end: the rest of the stream isn't read. For each of them all pixels are made, which takes
+     * half as long as decoding, or more, however little has come.
+     *
+     * A stream that isn't read to its end is cancelled: also where the loop is left early, or for
+     * an error. A stream without a picture throws as `decode` does, and one that fails its error.
+     */
+    showStream(
+        stream: Pieces,
+        options?: ShowingOptions,
+    ): AsyncGenerator<PartialPicture, void, undefined>;
 
     /**
      * Returns Exif data from the TIFF header on, XMP data or an ICC profile, of the segments before

@@ -61,6 +61,8 @@ export const OPTIONS = [
 const PLANES_OPTIONS = ['scale', 'minWidth', 'minHeight', 'maxPixels', 'maxBytes', 'maxPasses'];
 /* What rows takes, for the same reason. */
 const ROWS_OPTIONS = [...PLANES_OPTIONS, 'colorTransform'];
+/* What feed takes, which always decodes as far as a stream goes. */
+const FED_OPTIONS = OPTIONS.filter((name) => name !== 'partial');
 /* The options whose values are objects, and the members of these. */
 const PARTS = { crop: ['left', 'top', 'width', 'height'], within: ['width', 'height'] };
 const MOST_SIDE = 65535;
@@ -165,13 +167,13 @@ export function ownOptions(options, names) {
 const classOf = (value) => Object.prototype.toString.call(value).slice(8, -1);
 
 /* The bytes of a buffer or of any view of one. */
-export function bytesOf(source) {
+export function bytesOf(source, what = 'jpeg') {
     if (source instanceof Uint8Array || source instanceof Uint8ClampedArray) return source;
     if (ArrayBuffer.isView(source)) {
         return new Uint8Array(source.buffer, source.byteOffset, source.byteLength);
     }
     if (BUFFERS.includes(classOf(source))) return new Uint8Array(source);
-    throw new TypeError('jpeg: an ArrayBuffer or a view of one');
+    throw new TypeError(`${what}: an ArrayBuffer or a view of one`);
 }
 
 /* Puts the members of an option that is an object, which are numbers of columns or lines. */
@@ -231,6 +233,11 @@ export function checkValues(options) {
     pixelLimit(options);
 }
 
+/* Refuses to go on where the module's memory isn't the one any more that a state is in. */
+function checkThere(isThere) {
+    if (!isThere()) throw new Error('the memory of the decoder was given back');
+}
+
 /* The sampling factors that a byte of a frame header has. */
 const factorsOf = (byte) => ({ horizontal: byte >> 4, vertical: byte & 15 });
 
@@ -250,7 +257,8 @@ export async function load(source, options) {
     return new Zaxbriar(await compile(source), options);
 }
 
-/* Frees what lines take in the module's memory where nobody can ask for the next one any more. */
+/* Frees what lines, and a stream that is fed, take in the module's memory where nobody can ask for
+ * more of them. */
 const dropped = new FinalizationRegistry((free) => free());
 
 /* The lines of a picture, as an iterator. `read` gives the next one, or null after the last; `free`
@@ -297,6 +305,78 @@ class Rows {
         return this;
     }
 }
+
+/* A stream that arrives in pieces. `calls` have what is asked of the module; `free` frees what the
+ * stream takes in its memory. */
+class Fed {
+    #calls;
+    #free;
+    #byteLength = 0;
+
+    constructor(calls, free) {
+        this.#calls = calls;
+        this.#free = free;
+        dropped.register(this, free, this);
+    }
+
+    get byteLength() {
+        return this.#byteLength;
+    }
+
+    #ask(name, ...words) {
+        if (!this.#calls) throw new Error('the stream was freed');
+        return this.#calls[name](...words);
+    }
+
+    feed(piece) {
+        const bytes = bytesOf(piece, 'piece');
+        this.#ask('feed', bytes);
+        this.#byteLength += bytes.length;
+    }
+
+    info() {
+        return this.#ask('info');
+    }
+
+    show() {
+        return this.#ask('show');
+    }
+
+    free() {
+        dropped.unregister(this);
+        this.#free?.();
+        this.#calls = this.#free = null;
+    }
+}
+
+// (not all engines have `using`)
+if (Symbol.dispose) Fed.prototype[Symbol.dispose] = Fed.prototype.free;
+
+/* The pieces of a stream, which is cancelled where it isn't read to its end. (The streams of some
+ * browsers are no iterables.) */
+async function* read(stream) {
+    const reader = stream.getReader();
+    try {
+        for (;;) {
+            const { value, done } = await reader.read();
+            if (done) return;
+            yield value;
+        }
+    } finally {
+        await reader.cancel();
+        reader.releaseLock();
+    }
+}
+
+/* What gives the pieces of a stream one after the other. */
+function piecesOf(stream) {
+    if (typeof stream?.getReader === 'function') return read(stream);
+    if (stream?.[Symbol.asyncIterator] ?? stream?.[Symbol.iterator]) return stream;
+    throw new TypeError('stream: a ReadableStream, or an iterable of its pieces');
+}
+
+/* Whether bytes that follow change nothing of a picture. */
+const isFinal = ({ fault }) => fault?.code !== CODES[TRUNCATED];
 
 export class Zaxbriar {
     #module;
@@ -456,6 +536,11 @@ export class Zaxbriar {
     /* The same, and compares maxPixels. */
     #describe(stream, picture, options) {
         this.#readHeader(stream, picture);
+        return this.#allowed(picture, options);
+    }
+
+    /* A picture that was described, unless it has more than maxPixels. */
+    #allowed(picture, options) {
         const described = this.#picture(picture);
         const most = pixelLimit(options);
         if (most && described.width * described.height > most) {
@@ -485,26 +570,35 @@ export class Zaxbriar {
     decode(jpeg, options = {}) {
         checkNames(options, OPTIONS);
         const isPartial = isSet(options, 'partial');
-        const name = isPartial ? 'zaxbriar_decode_partial' : 'zaxbriar_decode';
         return this.#with((allocate) => {
             const stream = this.#stream(allocate, jpeg, options, LIMITS);
             const at = allocate(PICTURE_BYTES);
             const { size } = this.#describe(stream, at, options);
-            const pixels = allocate(size);
-            // The bytes between lines stay as they are, and blocks are used again.
-            if (options.stride) this.#bytes(pixels, size).fill(0);
-            const words = [pixels, size, at].map(BigInt);
-            const answer = this.#call(name, ...stream, ...words);
-            if (answer !== PARTIAL) this.#check(answer, at);
-            // (engines fill what `slice` gives with zeros first, which takes as long as the copy)
-            const view = new Uint8ClampedArray(this.#exports.memory.buffer, pixels, size);
-            const decoded = { picture: this.#picture(at), pixels: new Uint8ClampedArray(view) };
-            if (!isPartial) return decoded;
-            const [fault] = this.#bytes(at + FAULT_AT, 1);
-            const struct = new DataView(this.#exports.memory.buffer, at, PICTURE_BYTES);
-            const wholeRows = struct.getUint32(WHOLE_ROWS_AT, true);
-            return { ...decoded, wholeRows, fault: fault ? this.#error(fault, at) : null };
+            const taken = { allocate, at, size, hasGaps: options.stride > 0 };
+            if (!isPartial) return this.#decoded(taken, 'zaxbriar_decode', ...stream);
+            return this.#decodedPart(taken, 'zaxbriar_decode_partial', ...stream);
         });
+    }
+
+    /* Decodes by a call of the module, whose first words are given. */
+    #decoded({ allocate, at, size, hasGaps }, name, ...words) {
+        const pixels = allocate(size);
+        // The bytes between lines stay as they are, and blocks are used again.
+        if (hasGaps) this.#bytes(pixels, size).fill(0);
+        const answer = this.#call(name, ...words, ...[pixels, size, at].map(BigInt));
+        if (answer !== PARTIAL) this.#check(answer, at);
+        // (engines fill what `slice` gives with zeros first, which takes as long as the copy)
+        const view = new Uint8ClampedArray(this.#exports.memory.buffer, pixels, size);
+        return { picture: this.#picture(at), pixels: new Uint8ClampedArray(view) };
+    }
+
+    /* The same as far as a stream goes, with its fault. */
+    #decodedPart(taken, name, ...words) {
+        const decoded = this.#decoded(taken, name, ...words);
+        const struct = new DataView(this.#exports.memory.buffer, taken.at, PICTURE_BYTES);
+        const wholeRows = struct.getUint32(WHOLE_ROWS_AT, true);
+        const fault = struct.getUint8(FAULT_AT);
+        return { ...decoded, wholeRows, fault: fault ? this.#error(fault, taken.at) : null };
     }
 
     decodePlanes(jpeg, options = {}) {
@@ -536,7 +630,7 @@ export class Zaxbriar {
             const view = new DataView(this.#exports.memory.buffer);
             const rows = view.getBigUint64(handle, true);
             const read = () => {
-                if (!isThere()) throw new Error('the memory of the decoder was given back');
+                checkThere(isThere);
                 return this.#nextRow(rows, line, rowBytes, at);
             };
             const end = () => {
@@ -560,6 +654,100 @@ export class Zaxbriar {
             throw this.#error(answer, at);
         }
         return this.#bytes(line, size).slice();
+    }
+
+    feed(options = {}) {
+        const own = ownOptions(options, FED_OPTIONS);
+        checkValues(own);
+        const { allocate, isThere, free } = this.#blocks();
+        try {
+            const at = allocate(PICTURE_BYTES);
+            const fed = this.#beginFed(allocate, at, optionsOf(own, LIMITS));
+            const ask = (call) => (words) => {
+                checkThere(isThere);
+                return call(words);
+            };
+            const calls = {
+                feed: ask((bytes) => this.#feed(fed, bytes)),
+                info: ask(() => this.#fedInfo(fed, at, own)),
+                show: ask(() => this.#fedShow(fed, at, own)),
+            };
+            const end = () => {
+                if (isThere()) this.#call('zaxbriar_fed_free', fed);
+                free();
+            };
+            return new Fed(calls, end);
+        } catch (error) {
+            free();
+            throw error;
+        }
+    }
+
+    /* Begins to take a stream, and gives what its calls take. */
+    #beginFed(allocate, at, given) {
+        const [options, handle] = [this.#put(allocate, given), allocate(8)].map(BigInt);
+        const answer = this.#call('zaxbriar_fed_new', options, handle);
+        // (the text for options that don't exist is the one that a stream of no bytes gets)
+        if (answer !== OK && answer !== NO_MEMORY) this.#readHeader([0n, 0n, options], at);
+        if (answer !== OK) throw this.#named(answer);
+        return new DataView(this.#exports.memory.buffer).getBigUint64(Number(handle), true);
+    }
+
+    #feed(fed, bytes) {
+        this.#with((allocate) => {
+            const piece = [this.#put(allocate, bytes), bytes.length].map(BigInt);
+            const answer = this.#call('zaxbriar_fed_feed', fed, ...piece);
+            if (answer !== OK) throw this.#named(answer);
+        });
+    }
+
+    /* The picture of a stream that is fed; null: its header isn't there yet. */
+    #fedInfo(fed, at, options) {
+        const answer = this.#call('zaxbriar_fed_info', fed, BigInt(at));
+        if (answer === TRUNCATED) return null;
+        this.#check(answer, at);
+        return this.#allowed(at, options);
+    }
+
+    #fedShow(fed, at, options) {
+        this.#check(this.#call('zaxbriar_fed_info', fed, BigInt(at)), at);
+        const { size } = this.#allowed(at, options);
+        return this.#with((allocate) => {
+            const taken = { allocate, at, size, hasGaps: options.stride > 0 };
+            return this.#decodedPart(taken, 'zaxbriar_fed_show', fed);
+        });
+    }
+
+    showStream(stream, options = {}) {
+        const { growth = 2, ...own } = ownOptions(options, [...FED_OPTIONS, 'growth']);
+        if (typeof growth !== 'number' || !(growth > 1)) {
+            throw new RangeError(`growth: a number above 1, not ${growth}`);
+        }
+        checkValues(own);
+        return this.#shown(piecesOf(stream), own, growth);
+    }
+
+    /* The picture of a stream each time that it has grown, and the one of all of it. */
+    async *#shown(pieces, options, growth) {
+        const fed = this.feed(options);
+        let next = 0;
+        let shown = -1;
+        try {
+            for await (const piece of pieces) {
+                fed.feed(piece);
+                if (fed.byteLength < next) continue;
+                // (a header of many pieces isn't read for each of them)
+                next = growth * fed.byteLength;
+                if (!fed.info()) continue;
+                const picture = fed.show();
+                shown = fed.byteLength;
+                yield picture;
+                if (isFinal(picture)) return;
+            }
+            if (fed.byteLength > shown) yield fed.show();
+        } finally {
+            fed.free();
+        }
     }
 
     /* The error of an answer to a call that gives no other text. */

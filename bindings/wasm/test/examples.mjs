@@ -1,9 +1,10 @@
 /* node examples.mjs node|chromium|firefox FOLDER: the examples of dist/examples by their pixels:
- * thumbnails and PNG files in Node; in a browser the thumbnails, and the images of a page, by
- * examples/images.mjs and by the service worker, which passes other files on as they come. FOLDER
- * takes files and EXAMPLE.BROWSER.png. */
+ * thumbnails and PNG files in Node; in a browser the thumbnails, the images of a page, by
+ * examples/images.mjs and by the service worker, which passes other files on as they come, and its
+ * canvases, also of a file of which a part has come. FOLDER takes files and EXAMPLE.BROWSER.png. */
 import assert from 'node:assert/strict';
 import { spawnSync } from 'node:child_process';
+import { createHash } from 'node:crypto';
 import {
     mkdirSync,
     readFileSync,
@@ -13,6 +14,7 @@ import {
     writeFileSync,
 } from 'node:fs';
 import { resolve } from 'node:path';
+import { isDeepStrictEqual } from 'node:util';
 import { inflateSync } from 'node:zlib';
 import { load } from '../dist/node.mjs';
 import { BMP_OPTIONS, bmpOf } from '../dist/examples/bmp.mjs';
@@ -53,13 +55,13 @@ const REFUSED = {
 };
 
 /* Photographs of which the server sends the first half, and the rest when they are released. */
-const HELD = Object.fromEntries(
-    ['held.jpg', 'held.bmp'].map((name) => {
-        let release;
-        const released = new Promise((done) => (release = done));
-        return [name, { release, released }];
-    }),
-);
+function held() {
+    let release;
+    const released = new Promise((done) => (release = done));
+    return { release, released };
+}
+const HELD = Object.fromEntries(['held.jpg', 'held.bmp'].map((name) => [name, held()]));
+const DRAWN = { 'drawn.jpg': held() };
 async function* halves(bytes, released) {
     yield bytes.subarray(0, bytes.length >> 1);
     await released;
@@ -76,7 +78,8 @@ async function* cut(bytes) {
 }
 function inPieces(path, bytes) {
     const name = path.slice(1);
-    if (name in HELD) return halves(bytes, HELD[name].released);
+    const { released } = HELD[name] ?? DRAWN[name] ?? {};
+    if (released) return halves(bytes, released);
     return name.startsWith('pieces/') ? cut(bytes) : bytes;
 }
 
@@ -186,7 +189,7 @@ async function makeSite() {
     for (const name of IN_PIECES) writeFileSync(`${folder}/pieces/${name}`, LOSSLESS[name]);
     const photograph = readFileSync(pathOf('../../../examples/rocket.jpg'));
     const bmp = bmpOf(zaxbriar.decode(photograph, BMP_OPTIONS));
-    writeFileSync(`${folder}/held.jpg`, photograph);
+    for (const name of ['held.jpg', 'drawn.jpg']) writeFileSync(`${folder}/${name}`, photograph);
     writeFileSync(`${folder}/held.bmp`, new Uint8Array(await bmp.arrayBuffer()));
     const images = Object.keys(files).map((name) => `<img src="${name}" alt="${name}">`);
     const page = `<!doctype html><title>${browser}</title><body>${images.join('\n')}`;
@@ -194,6 +197,14 @@ async function makeSite() {
     writeFileSync(`${folder}/plain.html`, page);
     writeFileSync(`${folder}/images.html`, page + script);
     writeFileSync(`${folder}/worker.mjs`, `import './zaxbriar/examples/service-worker.mjs';\n`);
+    const canvases = ['drawn.jpg', ...Object.keys(ORDINARY), ...Object.keys(REFUSED)].map(
+        (name) => `<canvas data-jpeg="${name}" width="3" height="2"></canvas>`,
+    );
+    writeFileSync(
+        `${folder}/canvases.html`,
+        `<!doctype html><title>${browser}</title><body>${canvases.join('\n')}` +
+            '<script type="module" src="zaxbriar/examples/canvases.mjs"></script>',
+    );
 }
 
 /* The frame of each file is known from some prefix on, and that it is no JPEG file at once. */
@@ -298,6 +309,59 @@ async function checkPieces(page) {
     }
 }
 
+/* What is known of pixels here: the first and the last row, and the sum of all. */
+function knownOf({ width, height, pixels }) {
+    const sum = createHash('sha256').update(pixels).digest('hex');
+    const rows = [pixels.slice(0, 4 * width), pixels.slice(-4 * width)].map((it) => [...it]);
+    return { width, height, first: rows[0], last: rows[1], sum };
+}
+
+/* The same of a canvas of the page. */
+const drawnAs = (page, name) =>
+    page.run(`(async () => {
+        const canvas = document.querySelector('canvas[data-jpeg="${name}"]');
+        const { width, height } = canvas;
+        const context = new OffscreenCanvas(width, height).getContext('2d');
+        context.drawImage(canvas, 0, 0);
+        const { data } = context.getImageData(0, 0, width, height);
+        const bytes = new Uint8Array(await crypto.subtle.digest('SHA-256', data));
+        const sum = Array.from(bytes, (byte) => byte.toString(16).padStart(2, '0')).join('');
+        const rows = [data.slice(0, 4 * width), data.slice(-4 * width)].map((it) => [...it]);
+        return { width, height, first: rows[0], last: rows[1], sum };
+    })()`);
+
+/* Waits until a canvas shows what it should. */
+async function untilDrawn(page, name, isRight) {
+    for (let round = 0; round < 200; round++) {
+        if (isRight(await drawnAs(page, name))) return;
+        await new Promise((done) => setTimeout(done, 50));
+    }
+    throw new Error(`never as it should be: ${name}`);
+}
+
+/* Canvases, of which one shows a part while half of its file has come, and then all of it; and
+ * files that are refused leave theirs as they are, but for the part of one that is cut. */
+async function checkCanvases(page, url) {
+    await page.open(`${url}canvases.html`);
+    const options = { layout: 'rgba', partial: true };
+    const wantedOf = (bytes) => knownOf(uprightOf(bytes, options));
+    const name = 'drawn.jpg';
+    const whole = wantedOf(readFileSync(`${folder}/${name}`));
+    const isPart = ({ first, last }) =>
+        isDeepStrictEqual(first, whole.first) && !isDeepStrictEqual(last, whole.last);
+    await untilDrawn(page, name, isPart);
+    const files = { ...ORDINARY, 'cut-lossless.jpg': REFUSED['cut-lossless.jpg'] };
+    for (const [other, bytes] of Object.entries(files)) {
+        const wanted = wantedOf(bytes);
+        await untilDrawn(page, other, (drawn) => isDeepStrictEqual(drawn, wanted));
+    }
+    assert.ok(isPart(await drawnAs(page, name)));
+    DRAWN[name].release();
+    await untilDrawn(page, name, (drawn) => isDeepStrictEqual(drawn, whole));
+    const { width, height } = await drawnAs(page, 'none.jpg');
+    assert.deepEqual([width, height], [3, 2]);
+}
+
 async function checkServiceWorker(page, url, before) {
     await page.open(`${url}plain.html`);
     await page.until(LOADED);
@@ -325,13 +389,16 @@ async function checkBrowser() {
     await checkImages(page, url, before);
     await checkFreed(page, before);
     await page.screenshot(`${room}/images.${browser}.png`);
+    await checkCanvases(page, url);
+    await page.screenshot(`${room}/canvases.${browser}.png`);
     await checkServiceWorker(page, url, before);
     await page.screenshot(`${room}/service worker.${browser}.png`);
     await page.close();
     close();
     const shown = Object.keys(LOSSLESS).length;
     console.log(`examples in ${browser}: images and service worker, ${shown} lossless files each;`);
-    console.log('      the memory of given pictures is free, and files are passed on as they come');
+    console.log('      the memory of given pictures is free, files are passed on as they come,');
+    console.log('      and a canvas shows its file while it arrives');
 }
 
 rmSync(folder, { recursive: true, force: true });

@@ -37,6 +37,10 @@ for (const stream of streams) {
     assert.deepEqual(zaxbriar.readInfo(there(stream)).width, picture.width, stream);
     assert.deepEqual(zaxbriar.decode(there(stream)).pixels, pixels, stream);
     zaxbriar.metadata(there(stream), 'exif');
+    const fed = zaxbriar.feed();
+    fed.feed(there(stream));
+    assert.deepEqual(fed.show().pixels, pixels, stream);
+    fed.free();
 }
 for (const stream of ['null', '"text"', '[255, 216]', '({ byteLength: 4 })', 'new Map()']) {
     assert.throws(() => zaxbriar.decode(there(stream)), TypeError, stream);

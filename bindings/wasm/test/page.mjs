@@ -2,8 +2,9 @@
  * are chosen, dropped and pasted, their pixels and sampling factors, the part of files with a
  * fault, faults in words and by name, metadata and a thumbnail, the list, zoom and keys, names for
  * a screen reader, the file that is chosen before those that wait and in place of one that takes
- * half a minute, the first screen of a phone, the photograph, the page without a network, and the
- * worker after a trap. FOLDER takes files, BROWSER.png and BROWSER.phone.png. */
+ * half a minute, the first screen of a phone, the photograph, the page without a network, the
+ * worker after a trap, and a picture while its file is read. FOLDER takes files, BROWSER.png and
+ * BROWSER.phone.png. */
 import assert from 'node:assert/strict';
 import { copyFileSync, readFileSync, writeFileSync } from 'node:fs';
 import { resolve } from 'node:path';
@@ -442,6 +443,77 @@ async function checkTrap() {
     close();
 }
 
+/* What is put into the worker for files that are read slowly: they give half of their bytes, one
+ * more half a second later, and the others once the page says so. */
+const SLOWLY = `
+const released = new Promise((done) => (new BroadcastChannel('rest').onmessage = done));
+Blob.prototype.stream = function () {
+    const file = this;
+    return new ReadableStream({
+        async start(controller) {
+            const bytes = new Uint8Array(await file.arrayBuffer());
+            const half = bytes.length >> 1;
+            controller.enqueue(bytes.subarray(0, half));
+            await new Promise((done) => setTimeout(done, 500));
+            controller.enqueue(bytes.subarray(half, half + 1));
+            await released;
+            controller.enqueue(bytes.subarray(half + 1));
+            controller.close();
+        },
+    });
+};`;
+
+/* The canvas shows what decode gives of these bytes, upright. */
+async function checkCanvas(page, bytes) {
+    const zaxbriar = await load();
+    const options = { layout: 'rgba', upright: true, partial: true };
+    const { picture, pixels } = zaxbriar.decode(bytes, options);
+    const { width, height, data } = await canvasOf(page);
+    assert.deepEqual([width, height], [picture.width, picture.height]);
+    assert.ok(pixels.every((sample, at) => sample === data[at]));
+}
+
+/* A picture is shown while its file is read slowly, and can be zoomed; the rest comes into the same
+ * place. */
+async function checkEarly() {
+    const { url, close } = await serve(web, (path, bytes) => {
+        if (path.endsWith('offline.js')) return null;
+        return path.endsWith('worker.mjs') ? Buffer.concat([bytes, Buffer.from(SLOWLY)]) : bytes;
+    });
+    const photograph = new URL('../../../examples/rocket.jpg', import.meta.url).pathname;
+    const bytes = readFileSync(photograph);
+    const page = await Page.browse(url);
+    await page.until(`document.body.dataset.state === 'ready'`);
+    await page.choose('#file', [photograph, ours('picture.png')]);
+    await page.until(`document.body.dataset.state === 'early'`);
+    await checkCanvas(page, bytes.subarray(0, (bytes.length >> 1) + 1));
+    const textOf = (id) => page.run(`document.getElementById('${id}').textContent`);
+    const label = () => page.run(`document.getElementById('canvas').getAttribute('aria-label')`);
+    assert.equal(await textOf('status'), 'rocket.jpg: shown while it is read');
+    assert.equal(await label(), 'rocket.jpg, so far, 640 by 427 pixels');
+    const names = 'File Length Size Process Colours Samples Sampling Orientation'.split(' ');
+    assert.deepEqual(Object.keys(await factsOf(page)), names);
+    assert.ok(await page.run(`document.getElementById('error').hidden`));
+    assert.equal(await page.run(`${button(photograph)}.lastChild.textContent`), 'waiting');
+    const scale = async () => Number.parseFloat(await textOf('scale'));
+    const fitting = await scale();
+    await page.run(`document.querySelector('[data-zoom=in]').click()`);
+    const zoomed = await scale();
+    assert.ok(zoomed > 1.9 * fitting);
+    await page.run(`new BroadcastChannel('rest').postMessage('now')`);
+    assert.equal(await shown(page), 'shown');
+    await checkCanvas(page, bytes);
+    assert.equal(await textOf('status'), 'rocket.jpg: shown');
+    assert.equal(await label(), 'rocket.jpg, 640 by 427 pixels');
+    assert.equal(await scale(), zoomed);
+    assert.ok('Decoded in' in (await factsOf(page)));
+    assert.equal(await show(page, ours('picture.png')), 'refused');
+    assert.equal(await show(page, photograph), 'shown');
+    assert.equal(await scale(), fitting);
+    await page.close();
+    close();
+}
+
 const { url, close } = await serve(web);
 const page = await Page.browse(url);
 await page.until(`document.body.dataset.state === 'ready'`);
@@ -476,9 +548,11 @@ close();
 await checkOffline(page, url);
 await page.close();
 await checkTrap();
+await checkEarly();
 const [parts, refusals] = [PARTIAL, REFUSED].map((files) => Object.keys(files).length);
 console.log(`page in ${browser}: ${PICTURES.length} pictures with their sampling,`);
 console.log(`      ${parts} in part, ${refusals} refusals by name, the list, drop, paste, fit, zoom,`);
 console.log(`      ${stops} stops of the tabulator, ${buttons} buttons with names, a thumbnail,`);
 console.log('      the chosen file first, a slow one put off, the first screen of a phone,');
-console.log('      the photograph, an empty console, no network, the worker after a trap');
+console.log('      the photograph, an empty console, no network, the worker after a trap,');
+console.log('      a picture while its file is read');

@@ -1,10 +1,10 @@
 /* node stack.mjs FILE..: what becomes of a call whose stack is too small, and of those after it.
  *
  * The module is given stacks of 1 to 64 kB, by another first value of its stack pointer, and
- * decodes each file with each, as a whole, as far as it goes, and line by line. Each call has to
- * give its picture or refusal, or to trap at the entry of a function, by `unreachable`; an access
- * outside the memory is another trap, and fails.
- * The call after a trap begins with a new instance, which has to give its answer too. */
+ * decodes each file with each, as a whole, as far as it goes, line by line, and fed by halves. Each
+ * call has to give its picture or refusal, or to trap at the entry of a function, by `unreachable`;
+ * an access outside the memory is another trap, and fails. The call after a trap begins with a new
+ * instance, which has to give its answer too. */
 import { readFileSync } from 'node:fs';
 import { Zaxbriar, ZaxbriarError } from '../dist/node.mjs';
 
@@ -28,6 +28,18 @@ const WAYS = [
     (zaxbriar, file) => zaxbriar.decode(file, { layout: 'rgba' }).pixels,
     (zaxbriar, file) => zaxbriar.decode(file, { layout: 'rgba', partial: true }).pixels,
     (zaxbriar, file) => Buffer.concat([...zaxbriar.rows(file)]),
+    (zaxbriar, file) => {
+        const fed = zaxbriar.feed({ layout: 'rgba' });
+        const half = file.length >> 1;
+        try {
+            fed.feed(file.subarray(0, half));
+            if (fed.info()) fed.show();
+            fed.feed(file.subarray(half));
+            return fed.show().pixels;
+        } finally {
+            fed.free();
+        }
+    },
 ];
 
 function outcome(zaxbriar, file, decode) {

@@ -3,10 +3,10 @@ import { Zaxbriar, ZaxbriarError, compile, load } from '../dist/index.mjs';
 import type { Area, AsyncOptions, AsyncPartialOptions, Bytes } from '../dist/index.mjs';
 import type { DecoderOptions } from '../dist/index.mjs';
 import type { DecodingOptions, DecodedPicture, DecodedPlanes } from '../dist/index.mjs';
-import type { Density, Feature } from '../dist/index.mjs';
+import type { Density, Fed, Feature } from '../dist/index.mjs';
 import type { Format, Layout, Options, PartialOptions, PartialPicture } from '../dist/index.mjs';
-import type { Picture, Plane, Rows, RowsOptions, Sampling } from '../dist/index.mjs';
-import type { Size, Source } from '../dist/index.mjs';
+import type { Picture, Pieces, Plane, Rows, RowsOptions, Sampling } from '../dist/index.mjs';
+import type { ShowingOptions, Size, Source } from '../dist/index.mjs';
 
 // Sources, and the bytes of streams.
 const sources: Source[] = ['zaxbriar.wasm', new URL('file:///zaxbriar.wasm'), new Uint8Array(8)];
@@ -156,6 +156,37 @@ other.rows(streams[0], { upright: true });
 // @ts-expect-error
 for await (const line of other.rows(streams[0])) line.width;
 
+// A stream in pieces, and what there is of it.
+const fed: Fed = zaxbriar.feed({ layout: 'rgba', upright: true, maxPasses: 20 });
+fed.feed(streams[0]);
+const perhapsKnown: Picture | null = fed.info();
+const soFar: PartialPicture = fed.show();
+const taken: number = fed.byteLength;
+fed.free();
+fed[Symbol.dispose]();
+// @ts-expect-error
+fed.info().width;
+// @ts-expect-error
+fed.feed('text');
+// @ts-expect-error
+fed.byteLength = 0;
+// @ts-expect-error
+zaxbriar.feed({ partial: true });
+const often: ShowingOptions = { growth: 1.25, layout: 'rgba' };
+const blob = new Blob([buffer]);
+const pieces: Pieces[] = [blob.stream(), [buffer], streams.values()];
+const body: ReadableStream<Uint8Array> | null = new Response(blob).body;
+if (body) for await (const { pixels } of zaxbriar.showStream(body, often)) pixels.fill(0);
+for await (const shown of zaxbriar.showStream(pieces[0])) if (shown.wholeRows > 9) break;
+// @ts-expect-error
+for (const shown of zaxbriar.showStream(pieces[0])) shown.fault;
+// @ts-expect-error
+zaxbriar.showStream(streams[0]);
+// @ts-expect-error
+zaxbriar.showStream(pieces[0], { growth: 'twice' });
+// @ts-expect-error
+zaxbriar.feed({ growth: 2 });
+
 // Metadata, which may not be there.
 const profile = other.metadata(streams[0], 'icc');
 const file = new Blob(profile ? [profile] : []);
@@ -192,4 +223,4 @@ const version: string = zaxbriar.version;
 export { bits, columns, data, described, feature, fetched, file, format, ink, layout, length };
 export { fault, first, inches, known, plain, planes, profile, rows, samples, strict, told };
 export { begun, bounds, complete, elsewhere, fits, list, narrow, next };
-export { piece, tiles, version };
+export { perhapsKnown, piece, soFar, taken, tiles, version };

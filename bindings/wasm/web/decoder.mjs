@@ -19,9 +19,11 @@ export class Decoder {
     }
 
     #begin() {
-        this.#worker = this.#start();
-        this.#worker.onmessage = ({ data }) => this.#answer(data);
-        this.#worker.onerror = (event) => {
+        const worker = this.#start();
+        this.#worker = worker;
+        // (what comes from a worker that was ended is no answer to a later request)
+        worker.onmessage = ({ data }) => worker === this.#worker && this.#answer(data);
+        worker.onerror = (event) => {
             event.preventDefault();
             const text = event.message || 'the worker could not be started';
             const sentence = sentenceOf({ fault: 'FAILED' });
@@ -31,10 +33,11 @@ export class Decoder {
 
     #answer(reply) {
         const asked = this.#asked;
+        if (reply.isEarly) return asked.early(reply);
         this.#asked = null;
         if (reply.isBroken) this.#stop();
         asked?.done(reply);
-        this.#next();
+        return this.#next();
     }
 
     #stop() {
@@ -58,10 +61,11 @@ export class Decoder {
         this.#worker.postMessage({ file, isShown: isShown() });
     }
 
-    /* Decodes a file. Its picture is wanted if `isShown` says so once its turn has come. */
-    decode(file, isShown) {
+    /* Decodes a file. Its picture is wanted if `isShown` says so once its turn has come; then
+     * `early` is given answers with what there is of it while it is read, if that takes long. */
+    decode(file, isShown, early) {
         return new Promise((done) => {
-            this.#waiting.push({ file, isShown, done });
+            this.#waiting.push({ file, isShown, early, done });
             this.#next();
         });
     }

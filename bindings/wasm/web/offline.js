@@ -7,6 +7,7 @@ const FILES = [
     'style.css',
     'page.mjs',
     'decoder.mjs',
+    'early.mjs',
     'worker.mjs',
     'words.mjs',
     'zaxbriar.mjs',

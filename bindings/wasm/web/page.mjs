@@ -128,13 +128,15 @@ function showFault(reply) {
 }
 
 /* What is told of a file: shown, shown in part, or refused. */
-function statusOf({ fault, sentence, isPartial }) {
+function statusOf({ fault, sentence, isPartial, isEarly }) {
+    if (isEarly) return 'shown while it is read';
     if (!fault) return 'shown';
     return `${isPartial ? 'shown in part' : 'not shown'}: ${sentence}`;
 }
 
 /* The state of the page. */
-function stateOf({ fault, isPartial }) {
+function stateOf({ fault, isPartial, isEarly }) {
+    if (isEarly) return 'early';
     if (!fault) return 'shown';
     return isPartial ? 'partial' : 'refused';
 }
@@ -149,8 +151,16 @@ function reveal({ button }) {
     list.scrollTop += Math.max(seen.bottom - room.bottom, 0) - Math.max(room.top - seen.top, 0);
 }
 
+/* What the picture's name says of how much of it is there. */
+const EXTENTS = { early: ', so far', partial: ', in part', shown: '' };
+
+/* The file of which a picture so far is shown. */
+let early = null;
+
 /* Puts an answer on the page. */
 function show(entry, reply) {
+    const isFirst = early !== entry;
+    early = reply.isEarly ? entry : null;
     if (reply.bitmap) put(reply.bitmap);
     showFault(reply);
     showFacts(factsOf(entry.file, reply));
@@ -164,20 +174,21 @@ function show(entry, reply) {
     at('shown').hidden = state === 'refused';
     if (!at('shown').hidden) {
         const { width, height } = at('canvas');
-        const part = reply.isPartial ? ', in part' : '';
-        const label = `${entry.file.name}${part}, ${width} by ${height} pixels`;
+        const label = `${entry.file.name}${EXTENTS[state]}, ${width} by ${height} pixels`;
         at('canvas').setAttribute('aria-label', label);
-        ZOOMS.fit();
+        // (someone may have zoomed the picture so far)
+        if (isFirst) ZOOMS.fit();
     }
     reveal(entry);
-    tell(`${entry.file.name}: ${statusOf(reply)}`);
+    if (isFirst || !reply.isEarly) tell(`${entry.file.name}: ${statusOf(reply)}`);
     document.body.dataset.state = state;
 }
 
 async function decodeEntry(entry) {
     const isChosen = () => entry === chosen;
     if (isChosen()) document.body.dataset.state = 'working';
-    const reply = await decoder.decode(entry.file, isChosen);
+    const showEarly = (reply) => (isChosen() ? show(entry, reply) : reply.bitmap.close());
+    const reply = await decoder.decode(entry.file, isChosen, showEarly);
     const size = reply.picture && `${reply.picture.width} × ${reply.picture.height}`;
     const parts = [!reply.fault || reply.isPartial ? size : null, reply.sentence];
     entry.note.textContent = parts.filter(Boolean).join('. ');

@@ -1,7 +1,9 @@
 /* Decodes away from the page, and draws there, too. A request is { file, isShown }. Its answer
  * describes the file, and the picture as it is stored; `fault` names what went wrong, and `sentence`
  * says what that means. Where the picture is to be shown it is an ImageBitmap, upright: with
- * `isPartial` beside a fault. After a fault with `isBroken` the page takes another worker. */
+ * `isPartial` beside a fault. Answers with `isEarly` come before it where a file takes long to be
+ * read, with the picture so far. After a fault with `isBroken` the page takes another worker. */
+import { Early } from './early.mjs';
 import { sentenceOf } from './words.mjs';
 import { ZaxbriarError, load } from './zaxbriar.mjs';
 
@@ -72,12 +74,38 @@ const told = (error) => ({
     featureArgument: error.featureArgument,
 });
 
-async function answer({ file, isShown }) {
+/* Tells of the picture that a file has brought by these bytes, if the browser can draw it. */
+function tellEarly(zaxbriar, decoded, bytes) {
+    const { bitmap } = drawn(decoded);
+    if (bitmap) postMessage({ isEarly: true, picture: zaxbriar.readInfo(bytes), bitmap }, [bitmap]);
+}
+
+/* The bytes of a file. */
+async function read(zaxbriar, { file, isShown }) {
+    if (!isShown) return new Uint8Array(await file.arrayBuffer());
+    const early = new Early(zaxbriar.feed(OPTIONS), (...told) => tellEarly(zaxbriar, ...told));
+    try {
+        const jpeg = new Uint8Array(file.size);
+        const reader = file.stream().getReader();
+        let count = 0;
+        for (;;) {
+            const { value, done } = await reader.read();
+            if (done) return jpeg;
+            jpeg.set(value, count);
+            count += value.length;
+            early.take(jpeg.subarray(0, count));
+        }
+    } finally {
+        early.end();
+    }
+}
+
+async function answer(request) {
     const reply = {};
     let jpeg;
     try {
         const zaxbriar = await loaded;
-        jpeg = new Uint8Array(await file.arrayBuffer());
+        jpeg = await read(zaxbriar, request);
         reply.picture = zaxbriar.readInfo(jpeg);
         reply.metadata = metadata(zaxbriar, jpeg);
         const { decoded, milliseconds } = decode(zaxbriar, jpeg);
@@ -86,7 +114,7 @@ async function answer({ file, isShown }) {
         reply.wholeRows = wholeRows;
         reply.isPartial = Boolean(fault);
         if (fault) Object.assign(reply, told(fault));
-        if (isShown) Object.assign(reply, drawn(decoded));
+        if (request.isShown) Object.assign(reply, drawn(decoded));
     } catch (error) {
         reply.isBroken = !(error instanceof ZaxbriarError);
         Object.assign(reply, told(error));

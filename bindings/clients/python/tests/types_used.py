@@ -32,6 +32,11 @@ def sizes(data: bytes, mapped: mmap.mmap, room: bytearray) -> tuple[int, Optiona
         height: int = given.info.height - given.lines
     by_row: zaxbriar.RowsOptions = {"min_width": 100}
     zaxbriar.rows(data, **by_row).close()
+    with zaxbriar.feed(layout="rgb", upright=True, max_bytes=1 << 20) as fed:
+        fed.feed(mapped)
+        known: Optional[zaxbriar.Info] = fed.info()
+        shown: zaxbriar.Partial = fed.show()
+    rows += fed.size + shown.whole_rows + (known.width if known else 0)
     before: Optional[int] = zaxbriar.Error().lines
     rows += len(lines) + height + (before or 0)
     found = len(exif or b"") + len(thumbnail or b"")
@@ -47,6 +52,10 @@ def misuses(data: bytes) -> None:
     zaxbriar.decode(data, max_pases=3)  # type: ignore[call-arg]
     zaxbriar.rows(data, layout="rgb")  # type: ignore[call-arg]
     zaxbriar.rows("text")  # type: ignore[arg-type]
+    zaxbriar.feed(data)  # type: ignore[call-arg]
+    zaxbriar.feed(layout="RGB")  # type: ignore[arg-type]
+    zaxbriar.feed().feed("text")  # type: ignore[arg-type]
+    zaxbriar.feed().info().width  # type: ignore[union-attr]
     zaxbriar.metadata(data, "iptc")  # type: ignore[arg-type]
     zaxbriar.joined_metadata(data, "icc")  # type: ignore[arg-type]
     zaxbriar.joined_metadata(data, "exif", max_bytes=9)  # type: ignore[call-arg]

@@ -8,6 +8,7 @@ read where it is, unless there are gaps between its bytes, and mustn't change du
 other threads run. The options are those of the class Options.
 """
 
+from .by_pieces import Fed, feed
 from .by_rows import Rows, rows
 from .calls import (
     decode,
@@ -37,6 +38,7 @@ __version__ = "0.1.0"
 __all__ = [
     "BadArgumentError",
     "Error",
+    "Fed",
     "Info",
     "Layout",
     "Limits",
@@ -58,6 +60,7 @@ __all__ = [
     "UnsupportedError",
     "decode",
     "decode_partial",
+    "feed",
     "find_metadata",
     "joined_metadata",
     "metadata",

@@ -61,7 +61,8 @@ def read_info(data: Buffer, **options: Unpack[Options]) -> Info:
         return info_of(describe(stream, wanted), wanted)
 
 
-def _new_memory(size: int) -> memoryview:
+def new_memory(size: int) -> memoryview:
+    """Memory for a picture."""
     try:
         return memoryview(bytearray(size))
     except (MemoryError, OverflowError):
@@ -72,7 +73,7 @@ def _memory_of(out: Buffer | None, stream: tuple[int, int], options: library.Opt
     """The memory for a picture: new, or that of a caller. Where that has several dimensions, the
     options get its stride."""
     if out is None:
-        return _new_memory(describe(stream, options).size)
+        return new_memory(describe(stream, options).size)
     view = memoryview(out)
     if view.readonly:
         raise BadArgumentError("out can't be written to")
@@ -105,6 +106,22 @@ def decode_at(
     return told
 
 
+def picture_in(
+    memory: memoryview, address: int, told: library.Description, options: library.Options
+) -> Picture:
+    """The picture that the library has decoded into some memory."""
+    info = info_of(told, options)
+    if options.stride > info.row_bytes:
+        return picture_with_gaps(memory, address, options.stride, info)
+    return picture_over(memory, info)
+
+
+def partial_of(picture: Picture, told: library.Description) -> Partial:
+    """What the library says of a picture as far as its stream goes."""
+    fault = error_of(told.fault, told) if told.fault else None
+    return Partial(picture, told.whole_rows, fault)
+
+
 def _decoded(
     call: Any, data: Buffer, out: Buffer | None, given: Options
 ) -> tuple[Picture, library.Description]:
@@ -117,10 +134,7 @@ def _decoded(
             if memory.ndim > 1 and options.stride:
                 room = options.stride * (len(memory) - 1) + memory.nbytes // len(memory)
             told = decode_at(call, stream, address, room, options)
-            info = info_of(told, options)
-            if options.stride > info.row_bytes:
-                return picture_with_gaps(memory, address, options.stride, info), told
-    return picture_over(memory, info), told
+            return picture_in(memory, address, told, options), told
 
 
 def decode(data: Buffer, *, out: Buffer | None = None, **options: Unpack[Options]) -> Picture:
@@ -141,16 +155,14 @@ def decode_partial(
     Raises an error where the header can't be decoded. It uses no more memory than decode. `out` and
     the options are those of decode.
     """
-    picture, told = _decoded(library.decode_partial, data, out, options)
-    fault = error_of(told.fault, told) if told.fault else None
-    return Partial(picture, told.whole_rows, fault)
+    return partial_of(*_decoded(library.decode_partial, data, out, options))
 
 
 def _copied(call: Any, data: Buffer, options: library.Options, kind: int) -> bytes | None:
     """The data of a kind that a call of the library copies, which are no longer than the stream."""
     found = c_size_t()
     with stream_of(data) as stream:
-        memory = _new_memory(stream[1])
+        memory = new_memory(stream[1])
         with library.held(memory) as address:
             answer = call(*stream, byref(options), kind, address, stream[1], byref(found))
     if answer == library.NO_DATA:

@@ -17,7 +17,8 @@
 //! ```
 //!
 //! [`Decoder::decode_as`] returns any picture in one of the layouts of the module [`layout`], such
-//! as RGBA or 16 bits a sample, and [`Decoder::rows`] its rows one by one.
+//! as RGBA or 16 bits a sample, and [`Decoder::rows`] its rows one by one. A [`FedDecoder`] shows
+//! a picture while it arrives.
 //!
 //! # What is proved
 //!
@@ -26,8 +27,8 @@
 //! ITU-T T.81. This crate is only tested. It reads a stream into memory, makes the calls, and names
 //! their errors. Two parts of it aren't a matter of types:
 //!
-//! - one module of `unsafe` blocks, which hands slices to the library, keeps what gives rows, takes
-//!   zeroed memory, and writes 16-bit numbers as bytes;
+//! - one module of `unsafe` blocks, which hands slices to the library, keeps what gives rows and
+//!   what takes pieces, takes zeroed memory, and writes 16-bit numbers as bytes;
 //! - a loop that reads segment by segment up to the end of a header or an image, so that a lent
 //!   reader stays right after them. How many bytes a segment needs is the library's to say, which
 //!   is proved, too. Pictures and errors don't rest on the loop: where it has read too little, all
@@ -50,6 +51,7 @@
 mod color;
 mod decoder;
 mod error;
+mod fed;
 mod info;
 pub mod layout;
 mod library;
@@ -59,5 +61,6 @@ mod stream;
 pub use color::ColorTransform;
 pub use decoder::{Decoder, PartialPicture};
 pub use error::{Error, UnsupportedFeature};
+pub use fed::{FedDecoder, FedSettings};
 pub use info::{Area, CodingProcess, Density, ImageInfo, PixelFormat, Scale};
 pub use rows::Rows;

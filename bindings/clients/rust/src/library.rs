@@ -339,6 +339,21 @@ extern "C" {
 
     fn zaxbriar_rows_free(rows: *mut KeptRows);
 
+    fn zaxbriar_fed_new(options: *const Options, fed: *mut *mut KeptPieces) -> c_int;
+
+    fn zaxbriar_fed_feed(fed: *mut KeptPieces, bytes: *const c_void, size: usize) -> c_int;
+
+    fn zaxbriar_fed_info(fed: *mut KeptPieces, picture: *mut Picture) -> c_int;
+
+    fn zaxbriar_fed_show(
+        fed: *mut KeptPieces,
+        pixels: *mut c_void,
+        pixels_size: usize,
+        picture: *mut Picture,
+    ) -> c_int;
+
+    fn zaxbriar_fed_free(fed: *mut KeptPieces);
+
     fn zaxbriar_metadata(
         jpeg: *const c_void,
         jpeg_size: usize,
@@ -435,15 +450,22 @@ pub struct Part {
     pub fault: Option<Refusal>,
 }
 
+impl Answer<Part> {
+    /// Returns what an answer of a call that decodes a part says, and what it says of the picture.
+    fn of_part(answer: c_int, picture: &Picture) -> Answer<Part> {
+        let is_cut = answer == PARTIAL;
+        let part = Part {
+            whole_rows: picture.whole_rows,
+            fault: refusal_of(if is_cut { picture.fault.into() } else { OK }, picture),
+        };
+        Answer::new(if is_cut { OK } else { answer }, picture, part)
+    }
+}
+
 /// Decodes the part of a stream before its first fault into `pixels`.
 pub fn decode_partial(jpeg: &[u8], options: &Options, pixels: &mut [u8]) -> Answer<Part> {
     let (answer, picture) = call(zaxbriar_decode_partial, jpeg, options, pixels);
-    let is_cut = answer == PARTIAL;
-    let part = Part {
-        whole_rows: picture.whole_rows,
-        fault: refusal_of(if is_cut { picture.fault.into() } else { OK }, &picture),
-    };
-    Answer::new(if is_cut { OK } else { answer }, &picture, part)
+    Answer::of_part(answer, &picture)
 }
 
 /// `zaxbriar_rows`.
@@ -513,6 +535,73 @@ impl Drop for Lines<'_> {
     fn drop(&mut self) {
         // SAFETY: `kept` is what `new` has got, and nobody has it after this.
         unsafe { zaxbriar_rows_free(self.kept.as_ptr()) }
+    }
+}
+
+/// `zaxbriar_fed`.
+#[repr(C)]
+struct KeptPieces {
+    unknown: [u8; 0],
+}
+
+/// What the library keeps of a stream that arrives in pieces.
+pub struct Pieces {
+    kept: NonNull<KeptPieces>,
+}
+
+// SAFETY: any thread may make the calls, one at a time: each takes a `Pieces` that is owned or
+// borrowed to be changed.
+unsafe impl Send for Pieces {}
+
+impl Pieces {
+    /// Begins to take a stream.
+    pub fn new(options: &Options) -> Result<Pieces, Refusal> {
+        let mut kept = ptr::null_mut();
+        // SAFETY: `options` is borrowed to be read and `kept` to be written; the struct is that of
+        // the header.
+        let answer = unsafe { zaxbriar_fed_new(options, &mut kept) };
+        match NonNull::new(kept) {
+            Some(kept) => Ok(Pieces { kept }),
+            None => Err(refusal_of(answer, &Picture::NONE).unwrap_or(Refusal::NoMemory)),
+        }
+    }
+
+    /// Copies the next bytes of the stream, or refuses all of them.
+    pub fn feed(&mut self, bytes: &[u8]) -> Result<(), Refusal> {
+        // SAFETY: `kept` is what `new` has got, and `bytes` is borrowed to be read.
+        let answer =
+            unsafe { zaxbriar_fed_feed(self.kept.as_ptr(), bytes.as_ptr().cast(), bytes.len()) };
+        refusal_of(answer, &Picture::NONE).map_or(Ok(()), Err)
+    }
+
+    /// Describes the picture by the header.
+    pub fn info(&mut self) -> Result<Picture, Refusal> {
+        let mut picture = Picture::NONE;
+        // SAFETY: `kept` is what `new` has got, and `picture` is borrowed to be written.
+        let answer = unsafe { zaxbriar_fed_info(self.kept.as_ptr(), &mut picture) };
+        refusal_of(answer, &picture).map_or(Ok(picture), Err)
+    }
+
+    /// Decodes what there is of the stream into `pixels`.
+    pub fn show(&mut self, pixels: &mut [u8]) -> Answer<Part> {
+        let mut picture = Picture::NONE;
+        // SAFETY: as in `info`; and `pixels` is borrowed to be written.
+        let answer = unsafe {
+            zaxbriar_fed_show(
+                self.kept.as_ptr(),
+                pixels.as_mut_ptr().cast(),
+                pixels.len(),
+                &mut picture,
+            )
+        };
+        Answer::of_part(answer, &picture)
+    }
+}
+
+impl Drop for Pieces {
+    fn drop(&mut self) {
+        // SAFETY: `kept` is what `new` has got, and nobody has it after this.
+        unsafe { zaxbriar_fed_free(self.kept.as_ptr()) }
     }
 }
 
