@@ -10,6 +10,7 @@ pub mod Bands
 pub mod Refinement
 pub mod Passes
 pub mod Zigzag
+pub mod GoesOn
 pub mod Intervals
 -- what a writer emits
 pub mod Written

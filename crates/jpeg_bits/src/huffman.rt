@@ -49,6 +49,8 @@ impl HuffmanDecoder {
     ghost use Rattle.jpeg_bits.specs.ShortDifferences.{TakesShort};
     ghost use Rattle.jpeg_bits.specs.Entropy.{Takes, fresh, fresh_before, bits_from, marker_from};
     ghost use Rattle.jpeg_bits.specs.Entropy.{upcoming};
+    ghost use Rattle.jpeg_bits.specs.GoesOn.{IsOpen};
+    ghost use Rattle.std.specs.Prelude.{true};
 
     /// Returns a decoder with no buffered bits. Endless zeros follow a marker.
     pub fn new(alloc: Global) -> HuffmanDecoder
@@ -80,6 +82,13 @@ impl HuffmanDecoder {
             buffered: self.buffered.copied(),
             refusal: None,
         }
+    }
+
+    /// Returns whether no end was met, and zeros follow the next marker; or a marker was met.
+    pub fn is_open(&self) -> bool
+        ensures { result ≡ true → IsOpen self.now.met }
+    {
+        self.buffered.is_open()
     }
 
     /// Forgets the bits read ahead, as at a restart (T.81, E.2.4). A marker that was reached is

@@ -4,6 +4,7 @@ pub mod BeforeScan
 pub mod BegunRest
 pub mod BegunScans
 pub mod DecodedRows
+pub mod FedLines
 pub mod FinishedScans
 pub mod FirstLines
 pub mod FirstRows
@@ -12,6 +13,8 @@ pub mod FromScan
 pub mod GivenRows
 pub mod GivenScans
 pub mod Joined
+pub mod LaterRows
+pub mod LaterStarts
 pub mod LinesLeft
 pub mod LinesOfWindows
 pub mod MarkedScans

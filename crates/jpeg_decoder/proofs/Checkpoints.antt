@@ -24,7 +24,7 @@ use Rattle.jpeg_decoder.proofs.Segments.Turns.{turn-takes, turns-enough}
 
 -- ---- the start
 
-start-stays : (more bytes : List ℕ) → Stays more (start_at bytes) (start_at (bytes ++ more))
+pub start-stays : (more bytes : List ℕ) → Stays more (start_at bytes) (start_at (bytes ++ more))
 unfolding start_at
 start-stays more bytes = search (rules, stays-bind, byte-stays, stays-if, stays-err, stays-ok) depth 14
 

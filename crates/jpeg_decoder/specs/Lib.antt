@@ -32,3 +32,4 @@ pub mod DecodesRows
 pub mod RowScans
 pub mod RowsView
 pub mod Rows
+pub mod FedRows

@@ -14,6 +14,7 @@ ghost use Rattle.jpeg_meaning.specs.Reported.{IsOfTurns};
 ghost use Rattle.jpeg_meaning.specs.States.{Decoding, MovesToHeader, IsReading, ahead, told_ahead};
 ghost use Rattle.jpeg_meaning.specs.States.{turns_ahead, OnTold, OnToldRefusal, HasHeader};
 ghost use Rattle.jpeg_decoder.specs.Decodes.{Decodes, DecodesPlanes};
+ghost use Rattle.jpeg_decoder.specs.FedRows.{IsFramed};
 ghost use Rattle.jpeg_decoder.specs.RowScans.{GivesMore, IsGiving, IsGivingScan, StartsRows};
 ghost use Rattle.jpeg_decoder.specs.RowScans.{rows_left};
 ghost use Rattle.jpeg_decoder.specs.Shows.{CountsRows, Shows};
@@ -84,7 +85,7 @@ fn format_of(count: usize, precision: u8) -> PixelFormat
 }
 
 /// Returns what a caller is told about the picture of a frame.
-fn info_by(frame: &FrameInfo, settings: Settings) -> ImageInfo
+pub(crate) fn info_by(frame: &FrameInfo, settings: Settings) -> ImageInfo
     ensures { result ≡ info_by settings (frame_in frame.now) }
 {
     ImageInfo {
@@ -442,6 +443,13 @@ impl<R: Read + Drop> Decoder<R> {
         self.settings.max_blocks
     }
 
+    /// Returns all that a caller can set, for [`FedRows`](crate::fed_rows::FedRows), say.
+    pub fn settings(&self) -> Settings
+        ensures { result ≡ self.now.settings }
+    {
+        self.settings
+    }
+
     /// Sets all that a caller can set.
     pub(crate) fn set_all(&mut self, settings: Settings)
         ensures { self.new ≡ record self.old { settings = settings } }
@@ -778,6 +786,7 @@ impl<R: Read + Drop> Decoder<R> {
     /// of the image, and returns all lines, where they can't be given as it is read: see `Rows`.
     pub(crate) fn begin_lines(&mut self) -> Result<Begun>
         ensures starts { StartsRows self.old result self.new }
+        ensures framed { OnOk result (IsFramed self.new.found) }
         ensures settings { self.new.settings ≡ self.old.settings }
     {
         self.begin()?;
@@ -802,6 +811,14 @@ impl<R: Read + Drop> Decoder<R> {
                 Err(error)
             }
         }
+    }
+
+    /// Returns what was found, and the source.
+    pub(crate) fn into_parts(self) -> (State, Source<R>)
+        ensures state { result.0 ≡ self.found }
+        ensures source { result.1 ≡ self.source }
+    {
+        (self.state, self.source)
     }
 
     /// Reads the next row of MCUs of the first scan, and makes the lines that it decides; after the

@@ -1,5 +1,5 @@
 //! A decoder that is fed the bytes of a stream in pieces, as they arrive.
-ghost use Rattle.std.specs.Prelude.{◌≡◌, ◌++◌, Ok, Some, MatchResult, IfErr, IfOk, OnErr};
+ghost use Rattle.std.specs.Prelude.{◌≡◌, ◌⊎◌, ◌++◌, Ok, Some, MatchResult, IfErr, IfOk, OnErr};
 ghost use Rattle.std.specs.Prelude.{IfSome, IsSomeAnd, OnOk, [], false, is_some, option_map, true};
 ghost use Rattle.std.specs.Prelude.{◌≤◌, ◌<◌, ◌+◌, ◌^◌, drop, length};
 ghost use Rattle.std.specs.List.{concat};
@@ -41,6 +41,18 @@ fn is_given_up(has_failed: bool, fault: &Error) -> bool
         Error::Format(text) => text.is_empty() || has_failed,
         _ => has_failed,
     }
+}
+
+/// Returns an error of a reader of bytes in memory, of which a read has failed or not. It isn't given
+/// up: where it is all the same, that counts as a lack of memory.
+pub(crate) fn error_of_bytes(has_failed: bool, error: Error) -> Error
+    ensures { (result ≡ OutOfMemory)
+        ⊎ ((result ≡ error) × (IsGivenUp error has_failed → ⊥)) }
+{
+    if is_given_up(has_failed, &error) {
+        return Error::OutOfMemory;
+    }
+    error
 }
 
 /// Reads the header of bytes in memory. Their reader isn't given up: where it is all the same, it

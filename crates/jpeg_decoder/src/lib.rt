@@ -24,7 +24,7 @@
 //! converted, as video, graphics processors and programs that look at pictures take them.
 //! `decode_partial` shows the part before the first fault of a stream that may be truncated or
 //! damaged, and names that fault. [`FedDecoder`] shows the same at any time of a stream that arrives
-//! in pieces.
+//! in pieces, and [`FedRows`] gives its lines from the top as their bytes come.
 //!
 //! `read_info` reads only the header. `info` then gives the size of the picture, and
 //! `decoding_bytes` all the memory that decoding it takes, so that a service can refuse it before
@@ -54,6 +54,7 @@ mod copies;
 pub mod decoder;
 pub mod error;
 pub mod fed;
+pub mod fed_rows;
 pub mod huffman;
 pub mod idct;
 pub mod laws;
@@ -71,10 +72,12 @@ pub mod worker;
 
 pub use decoder::{Decoder, ImageInfo, PartialPicture, PixelFormat};
 pub use fed::FedDecoder;
+pub use fed_rows::{FedRows, Given};
 pub use jpeg_bits::color_transform::ColorTransform;
 pub use jpeg_bits::error::{Error, UnsupportedFeature};
 pub use jpeg_bits::source::byte_reader::ByteReader;
 pub use jpeg_bits::source::slice_reader::SliceReader;
+pub use jpeg_meaning::settings::Settings;
 pub use jpeg_segments::parser::CodingProcess;
 pub use jpeg_segments::scale::Scale;
 pub use picture::lines::Lines;

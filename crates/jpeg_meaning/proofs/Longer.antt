@@ -11,3 +11,6 @@ pub mod LongerSamples
 pub mod LongerTurns
 pub mod LongerBlocks
 pub mod LongerSteps
+pub mod LaterTexts
+pub mod LaterBlocks
+pub mod LaterStates

@@ -176,6 +176,7 @@ impl BufferedBits {
     ghost use Rattle.jpeg_bits.specs.Entropy.{Takes, fresh, fresh_before, same_text, has_buffered};
     ghost use Rattle.jpeg_bits.specs.Entropy.{marker_at_end, met_of, number_of, bits_from, upcoming};
     ghost use Rattle.jpeg_bits.specs.Entropy.{IsFilled, IsUnmet};
+    ghost use Rattle.jpeg_bits.specs.GoesOn.{IsOpen};
     ghost use Rattle.jpeg_bits.specs.declared.beyond.Beyond.{Beyond};
 
     pub(crate) fn new(alloc: Global, beyond: Beyond) -> BufferedBits
@@ -616,6 +617,18 @@ impl BufferedBits {
         ensures { self.new ≡ record self.old { bits = [] } }
     {
         self.bits.clear();
+    }
+
+    /// Returns whether the data haven't ended with their bytes, and zeros follow the marker that ends
+    /// them.
+    pub(crate) fn is_open(&self) -> bool
+        ensures { result ≡ true → IsOpen self.now.met }
+    {
+        match (self.end, self.beyond) {
+            (None, Beyond::Zeros) => true,
+            (Some(DataEnd::Marker(_)), _) => true,
+            _ => false,
+        }
     }
 
     /// Takes the end that was reached. Nothing is buffered any more, and after the next marker zeros

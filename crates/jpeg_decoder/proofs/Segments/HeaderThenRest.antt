@@ -100,7 +100,7 @@ begun-refused limit beyond n found bytes fault none e =
     ∙ ap (λ (b : Brought). refused_walk (is_above limit 0) b fault) same
     ∙ ap (λ (above : Bool). refused_walk above (turn_at beyond Elsewhere found None bytes) fault) (none-above limit)
 
-walk-begun : (limit : Option ℕ) (beyond : Beyond) (n : ℕ) (header : Bool) (found : Found) (bytes : List ℕ)
+pub walk-begun : (limit : Option ℕ) (beyond : Beyond) (n : ℕ) (header : Bool) (found : Found) (bytes : List ℕ)
     (t : Turn × List ℕ) → is_some found.said.frame ≡ false
     → (turn_at beyond Elsewhere found None bytes).turn ≡ Ok t → IsElsewhere t
     → walk limit beyond (suc n) header Elsewhere found None bytes
@@ -273,7 +273,7 @@ alike left zero before found met bytes = refl
 alike left (suc n) before found met bytes =
     alike-turn left n before found met bytes (λ l t. alike l n t.0.before t.0.found t.0.met t.1)
 
-any-alike : (beyond : Beyond) (bytes : List ℕ)
+pub any-alike : (beyond : Beyond) (bytes : List ℕ)
     → walk_over None beyond true nothing_found bytes ≡ walk_over None Zeros true nothing_found bytes
 unfolding AreAlike
 any-alike Zeros bytes = refl

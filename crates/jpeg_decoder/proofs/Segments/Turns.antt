@@ -185,7 +185,7 @@ turns-enough left beyond _ _ header before found met bytes p q = absurd (omega a
 
 -- ---- the start
 
-start-below : (bytes : List ℕ) → LeavesBelow (suc (length bytes)) (start_at bytes)
+pub start-below : (bytes : List ℕ) → LeavesBelow (suc (length bytes)) (start_at bytes)
 unfolding start_at
 start-below bytes = search below_steps
 

@@ -4,12 +4,14 @@ ghost use Rattle.std.specs.Prelude.{OnOk, ◌<◌, ◌≤◌, false, is_some, op
 ghost use Rattle.std.specs.List.{concat};
 ghost use Rattle.jpeg_bits.specs.Reading.{NamesFormat};
 ghost use Rattle.jpeg_bits.specs.Stream.{Stream};
+ghost use Rattle.jpeg_meaning.specs.Found.{nothing_found};
 ghost use Rattle.jpeg_meaning.specs.FoundPictures.{picture_of};
 ghost use Rattle.jpeg_meaning.specs.Sound.{HasDecodedFrame, IsSound, IsUnread};
 ghost use Rattle.jpeg_meaning.specs.Stream.{told_of};
 ghost use Rattle.jpeg_decoder.specs.ByRows.{comes_by_rows, conversion_for, conversion_in};
 ghost use Rattle.jpeg_decoder.specs.ByRows.{keeps_transform, transform_place, transform_said};
 ghost use Rattle.jpeg_decoder.specs.Bytes.{IsWhole, shape_of};
+ghost use Rattle.jpeg_decoder.specs.FedRows.{BeginsScan};
 ghost use Rattle.jpeg_decoder.specs.RowScans.{Begins, BeginsAtScan, GoesOn, InScan, IsInScan};
 ghost use Rattle.jpeg_decoder.specs.RowScans.{IsUntaken, SaysAtScan, rows_left};
 ghost use Rattle.jpeg_decoder.specs.Steps.{IsHeaderOf, Returns};
@@ -17,6 +19,7 @@ ghost use Rattle.jpeg_decoder.specs.Walks.{IsGoing, IsKnownIf};
 
 use crate::by_rows::first_scan::{Colours, RowScan, begin_rows, end_rows, read_lines};
 use crate::by_rows::shown::Shown;
+use crate::picture::whole;
 use crate::picture::whole::{is_within_limit, picture, transform_of};
 use crate::scan::decoded::Decoded;
 use crate::scan::segment::{read_after, read_header};
@@ -240,6 +243,37 @@ pub fn begin_rest<R: Read + Drop>(
     begun
 }
 
+/// Reads a stream up to the data of its first scan, and begins to give its lines, whatever bytes
+/// follow; or returns none where they can't be given as it is read.
+pub fn begin_stream<R: Read + Drop>(
+    alloc: Global,
+    source: &mut Source<R>,
+    state: &mut State,
+    settings: Settings,
+) -> Result<Option<RowScan>>
+    requires { state.old ≡ nothing_found }
+    ensures begins { source.old.known ≡ true → IfOk result (λ o. IfSome o (BeginsScan settings
+        source.old.bytes state.new source.new.bytes)) }
+    ensures known { source.old.known ≡ true → OnOk result (source.new.known ≡ true) }
+{
+    whole::read_header(alloc, source, state)?;
+    if !read_to_scan(alloc, source, state)? {
+        return Ok(None);
+    }
+    let mut walk = Walk {
+        budget: Budget {
+            left: settings.max_blocks,
+            exceeded: false,
+        },
+        rows: None,
+    };
+    let header = read_header(alloc, source, state, &mut walk.budget)?;
+    match colours_for(alloc, state, &header, settings) {
+        Some(colours) => Ok(Some(begin_rows(alloc, state, header, colours, walk)?)),
+        None => Ok(None),
+    }
+}
+
 /// Reads the rest of a stream after the last row of MCUs of its first scan, whose lines were given.
 fn finish<R: Read + Drop>(
     alloc: Global,
@@ -263,7 +297,7 @@ fn finish<R: Read + Drop>(
 }
 
 /// Returns whether a scan has rows of MCUs that weren't read.
-fn has_more(state: &State, rows: &RowScan) -> bool
+pub fn has_more(state: &State, rows: &RowScan) -> bool
     requires scan { IfSome state.now.said.frame (λ f. rows.now.giver.rows ≤ f.mcus_high) }
     requires framed { is_some state.now.said.frame ≡ true }
     ensures more { result ≡ true

@@ -53,6 +53,22 @@ impl Interval {
     ghost use Rattle.std.specs.Prelude.{◌≡◌, Some, is_some, true};
     ghost use Rattle.jpeg_bits.specs.Refusals.{kept_refusal};
 
+    /// Copies it, without a refusal.
+    pub fn copied(&self) -> Interval
+        ensures { result ≡ record self.now { refusal = None } }
+    {
+        Interval {
+            alloc: self.alloc,
+            decoder: self.decoder.copied(),
+            carried: self.carried,
+            left: self.left,
+            number: self.number,
+            beyond: self.beyond,
+            unread: self.unread,
+            refusal: None,
+        }
+    }
+
     /// Notes the spot of a block that was refused, and takes the refusal.
     #[cold]
     pub fn refused_at(&mut self, spot: Spot) -> Error

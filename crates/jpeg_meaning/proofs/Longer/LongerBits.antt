@@ -25,7 +25,7 @@ HasSized v = (length v.dc.counts ≡ 16) × (length v.ac.counts ≡ 16)
 abbrev pub AreSized : List Via → Type 0
 AreSized vias = (slot : ℕ) → HasSized (via_at vias slot)
 
-turn-front : (p : Pass) (vias : List Via) (s : Spot) (old : Reached)
+pub turn-front : (p : Pass) (vias : List Via) (s : Spot) (old : Reached)
     → TakesFront (AreSized vias) (turn_from p vias s old)
 unfolding turn_from
 turn-front p vias s old =

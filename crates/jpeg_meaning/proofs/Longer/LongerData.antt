@@ -135,7 +135,7 @@ named-later : (o : Option Marker) (rest more : List ℕ) → ended_by o (rest ++
 named-later None rest more = refl
 named-later (Some m) rest more = refl
 
-ending-later : (bytes more : List ℕ) → (ending_at bytes ≡ Broken End)
+pub ending-later : (bytes more : List ℕ) → (ending_at bytes ≡ Broken End)
     ⊎ (ending_at (bytes ++ more) ≡ later (ending_at bytes) more)
 unfolding ending_at
 ending-later [] more = inl refl
