@@ -23,6 +23,10 @@ FOR_BOTH(fed_new);
 FOR_BOTH(fed_feed);
 FOR_BOTH(fed_info);
 FOR_BOTH(fed_show);
+FOR_BOTH(fed_rows);
+FOR_BOTH(fed_next);
+FOR_BOTH(fed_end);
+FOR_BOTH(fed_refusal);
 FOR_BOTH(fed_find_metadata);
 FOR_BOTH(fed_free);
 
@@ -128,6 +132,26 @@ uint32_t zaxbriar_checked_fed_show(zaxbriar_kept *kept, uint8_t *pixels, size_t 
                                    zaxbriar_picture *picture) {
     if (zaxbriar_is_v3()) return zaxbriar_v3_fed_show(kept, pixels, pixels_size, picture);
     return zaxbriar_v2_fed_show(kept, pixels, pixels_size, picture);
+}
+
+uint32_t zaxbriar_checked_fed_rows(zaxbriar_kept *kept, zaxbriar_picture *picture) {
+    if (zaxbriar_is_v3()) return zaxbriar_v3_fed_rows(kept, picture);
+    return zaxbriar_v2_fed_rows(kept, picture);
+}
+
+uint32_t zaxbriar_checked_fed_next(zaxbriar_kept *kept, uint8_t *line, size_t line_size) {
+    if (zaxbriar_is_v3()) return zaxbriar_v3_fed_next(kept, line, line_size);
+    return zaxbriar_v2_fed_next(kept, line, line_size);
+}
+
+uint32_t zaxbriar_checked_fed_end(zaxbriar_kept *kept) {
+    if (zaxbriar_is_v3()) return zaxbriar_v3_fed_end(kept);
+    return zaxbriar_v2_fed_end(kept);
+}
+
+uint32_t zaxbriar_checked_fed_refusal(zaxbriar_kept *kept, zaxbriar_picture *picture) {
+    if (zaxbriar_is_v3()) return zaxbriar_v3_fed_refusal(kept, picture);
+    return zaxbriar_v2_fed_refusal(kept, picture);
 }
 
 void zaxbriar_checked_fed_find_metadata(zaxbriar_kept *kept, zaxbriar_places *places) {

@@ -36,6 +36,10 @@ uint32_t zaxbriar_checked_fed_feed(zaxbriar_kept *kept, const uint8_t *bytes, si
 uint32_t zaxbriar_checked_fed_info(zaxbriar_kept *kept, zaxbriar_picture *picture);
 uint32_t zaxbriar_checked_fed_show(zaxbriar_kept *kept, uint8_t *pixels, size_t pixels_size,
                                    zaxbriar_picture *picture);
+uint32_t zaxbriar_checked_fed_rows(zaxbriar_kept *kept, zaxbriar_picture *picture);
+uint32_t zaxbriar_checked_fed_next(zaxbriar_kept *kept, uint8_t *line, size_t line_size);
+uint32_t zaxbriar_checked_fed_end(zaxbriar_kept *kept);
+uint32_t zaxbriar_checked_fed_refusal(zaxbriar_kept *kept, zaxbriar_picture *picture);
 void zaxbriar_checked_fed_find_metadata(zaxbriar_kept *kept, zaxbriar_places *places);
 void zaxbriar_checked_fed_free(zaxbriar_kept *kept);
 

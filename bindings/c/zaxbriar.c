@@ -257,12 +257,13 @@ void zaxbriar_rows_free(zaxbriar_rows *rows) {
     zaxbriar_exchange_memory(before);
 }
 
-/* The same of a stream that arrives in pieces, and where the places that its bytes have are stored,
- * or a null pointer. */
+/* The same of a stream that arrives in pieces; where the places that its bytes have are stored, or
+ * a null pointer; and whether its lines are taken one by one. */
 struct zaxbriar_fed {
     zaxbriar_kept kept;
     zaxbriar_memory memory;
     zaxbriar_places *places;
+    int gives_lines;
 };
 
 /* Begins to take a stream, by the memory in use. */
@@ -298,6 +299,12 @@ zaxbriar_result zaxbriar_fed_feed(zaxbriar_fed *fed, const void *bytes, size_t s
     return (zaxbriar_result)answer;
 }
 
+/* What is wrong with a call that describes or shows a picture, or a null pointer. */
+static const char *fault_of_showing(const zaxbriar_fed *fed) {
+    if (!fed) return "fed is a null pointer";
+    return fed->gives_lines ? "the lines are taken one by one" : NULL;
+}
+
 /* Finds the places in the bytes that were fed, where they are asked for, as `with_places` does. */
 static zaxbriar_result with_fed_places(uint32_t answer, zaxbriar_fed *fed) {
     if (fed->places && answer != ZAXBRIAR_BAD_ARGUMENT)
@@ -307,7 +314,8 @@ static zaxbriar_result with_fed_places(uint32_t answer, zaxbriar_fed *fed) {
 
 zaxbriar_result zaxbriar_fed_info(zaxbriar_fed *fed, zaxbriar_picture *picture) {
     if (!picture) return ZAXBRIAR_BAD_ARGUMENT;
-    if (!fed) return bad_argument(picture, "fed is a null pointer");
+    const char *fault = fault_of_showing(fed);
+    if (fault) return bad_argument(picture, fault);
     const zaxbriar_memory *before = zaxbriar_exchange_memory(given(&fed->memory));
     uint32_t answer = zaxbriar_checked_fed_info(&fed->kept, picture);
     zaxbriar_exchange_memory(before);
@@ -318,13 +326,56 @@ zaxbriar_result zaxbriar_fed_show(zaxbriar_fed *fed, void *pixels, size_t pixels
                                   zaxbriar_picture *picture) {
     zaxbriar_picture unused;
     if (!picture) picture = &unused;
-    if (!fed) return bad_argument(picture, "fed is a null pointer");
+    const char *fault = fault_of_showing(fed);
+    if (fault) return bad_argument(picture, fault);
     if (!is_slice(pixels, pixels_size)) return bad_argument(picture, "pixels is a null pointer");
     const zaxbriar_memory *before = zaxbriar_exchange_memory(given(&fed->memory));
     uint32_t answer = zaxbriar_checked_fed_show(&fed->kept, pixels ? pixels : &nothing,
                                                 pixels_size, picture);
     zaxbriar_exchange_memory(before);
     return with_fed_places(answer, fed);
+}
+
+zaxbriar_result zaxbriar_fed_rows(zaxbriar_fed *fed, zaxbriar_picture *picture) {
+    zaxbriar_picture unused;
+    if (!picture) picture = &unused;
+    const char *fault = fault_of_showing(fed);
+    if (fault) return bad_argument(picture, fault);
+    /* (what gives lines doesn't keep the bytes, in which the places are) */
+    zaxbriar_places places;
+    if (fed->places) zaxbriar_checked_fed_find_metadata(&fed->kept, &places);
+    const zaxbriar_memory *before = zaxbriar_exchange_memory(given(&fed->memory));
+    uint32_t answer = zaxbriar_checked_fed_rows(&fed->kept, picture);
+    zaxbriar_exchange_memory(before);
+    if (fed->places && answer != ZAXBRIAR_BAD_ARGUMENT) *fed->places = places;
+    fed->gives_lines = answer == ZAXBRIAR_OK;
+    return (zaxbriar_result)answer;
+}
+
+zaxbriar_result zaxbriar_fed_next(zaxbriar_fed *fed, void *line, size_t line_size) {
+    if (!fed || !is_slice(line, line_size)) return ZAXBRIAR_BAD_ARGUMENT;
+    const zaxbriar_memory *before = zaxbriar_exchange_memory(given(&fed->memory));
+    uint32_t answer = zaxbriar_checked_fed_next(&fed->kept, line ? line : &nothing, line_size);
+    zaxbriar_exchange_memory(before);
+    return (zaxbriar_result)answer;
+}
+
+zaxbriar_result zaxbriar_fed_end(zaxbriar_fed *fed) {
+    if (!fed) return ZAXBRIAR_BAD_ARGUMENT;
+    const zaxbriar_memory *before = zaxbriar_exchange_memory(given(&fed->memory));
+    uint32_t answer = zaxbriar_checked_fed_end(&fed->kept);
+    zaxbriar_exchange_memory(before);
+    return (zaxbriar_result)answer;
+}
+
+zaxbriar_result zaxbriar_fed_refusal(zaxbriar_fed *fed, zaxbriar_picture *picture) {
+    if (!picture) return ZAXBRIAR_BAD_ARGUMENT;
+    if (!fed) return bad_argument(picture, "fed is a null pointer");
+    if (!fed->gives_lines) return bad_argument(picture, "no lines are taken");
+    const zaxbriar_memory *before = zaxbriar_exchange_memory(given(&fed->memory));
+    uint32_t answer = zaxbriar_checked_fed_refusal(&fed->kept, picture);
+    zaxbriar_exchange_memory(before);
+    return (zaxbriar_result)answer;
 }
 
 void zaxbriar_fed_free(zaxbriar_fed *fed) {
@@ -424,6 +475,7 @@ const char *zaxbriar_answer_name(int answer) {
     case ZAXBRIAR_PARTIAL: return "partial picture";
     case ZAXBRIAR_TOO_MANY_PASSES: return "too many passes over the picture";
     case ZAXBRIAR_END: return "no other line";
+    case ZAXBRIAR_WAITING: return "waiting for more bytes";
     default: return "unknown answer";
     }
 }

@@ -72,11 +72,13 @@ typedef enum zaxbriar_result {
     ZAXBRIAR_PARTIAL = 9,      /* only of zaxbriar_decode_partial and zaxbriar_fed_show: the stream
                                   has a fault, and `pixels` has what it brings up to it:
                                   picture.fault */
-    ZAXBRIAR_TOO_MANY_PASSES = 10, /* only of zaxbriar_decode, zaxbriar_decode_planes,
-                                      zaxbriar_rows_next and zaxbriar_rows_refusal: the scans code
-                                      the blocks of the picture more often than max_passes allows */
-    ZAXBRIAR_END = 11              /* only of zaxbriar_rows_next and zaxbriar_rows_refusal: there is
-                                      no other line, and the stream has no fault */
+    ZAXBRIAR_TOO_MANY_PASSES = 10, /* only of zaxbriar_decode, zaxbriar_decode_planes and the calls
+                                      that ZAXBRIAR_END is of: the scans code the blocks of the
+                                      picture more often than max_passes allows */
+    ZAXBRIAR_END = 11,             /* only of zaxbriar_rows_next, zaxbriar_rows_refusal,
+                                      zaxbriar_fed_next and zaxbriar_fed_refusal: there is no other
+                                      line, and the stream has no fault */
+    ZAXBRIAR_WAITING = 12          /* only of zaxbriar_fed_next: the next line needs more bytes */
 } zaxbriar_result;
 
 /* How the pixels are arranged. Every picture can be decoded into every layout. In all but
@@ -309,9 +311,9 @@ typedef struct zaxbriar_options {
     const zaxbriar_memory *memory; /* null: malloc, realloc and free */
     zaxbriar_places *places; /* null, or where zaxbriar_read_info, zaxbriar_decode,
                                 zaxbriar_decode_partial, zaxbriar_decode_planes,
-                                zaxbriar_rows_new, zaxbriar_fed_info and zaxbriar_fed_show store
-                                what zaxbriar_find_metadata finds, whatever they return but
-                                ZAXBRIAR_BAD_ARGUMENT; the limits don't affect it */
+                                zaxbriar_rows_new, zaxbriar_fed_info, zaxbriar_fed_show and
+                                zaxbriar_fed_rows store what zaxbriar_find_metadata finds, whatever
+                                they return but ZAXBRIAR_BAD_ARGUMENT; the limits don't affect it */
     uint64_t max_passes; /* limits how many times the scans may code the blocks of the picture, all
                             together; 0: no limit. Few files need more than 8; 100 is a limit for
                             untrusted ones */
@@ -525,7 +527,8 @@ ZAXBRIAR_API zaxbriar_result zaxbriar_rows_refusal(zaxbriar_rows *rows, zaxbriar
 ZAXBRIAR_API void zaxbriar_rows_free(zaxbriar_rows *rows);
 
 /* Takes a stream in pieces, as they arrive, and shows at any time the picture of what has arrived:
- * for a program that shows a picture while it is loaded.
+ * for a program that shows a picture while it is loaded. (For one that needs each line once, from
+ * the top, see zaxbriar_fed_rows.)
  *
  *     zaxbriar_fed *fed;
  *     if (zaxbriar_fed_new(NULL, &fed) != ZAXBRIAR_OK)
@@ -562,26 +565,29 @@ ZAXBRIAR_API void zaxbriar_rows_free(zaxbriar_rows *rows);
  * streams have a single scan, and a program that shows one after each small piece decodes it that
  * often. To make the lines alone takes about half as long as one decode, however little has come.
  * So show a picture once the bytes have doubled, say: eight such calls take about six times as long
- * as one decode. With min_width, min_height or scale each zaxbriar_fed_show reads all bytes.
+ * as one decode. With min_width, min_height or scale each zaxbriar_fed_show reads all bytes. (A
+ * program that only draws the new lines of such a stream takes them by zaxbriar_fed_next, all in
+ * about one to two times the time of one decode, however small the pieces are.)
  *
  * Any thread may make the calls with a zaxbriar_fed, one call at a time: threads that share one
  * take turns by a lock, say. Calls with different ones don't affect each other. */
 typedef struct zaxbriar_fed zaxbriar_fed;
 
-/* Begins to take a stream, of which there are no bytes yet. After ZAXBRIAR_OK *fed is what the four
+/* Begins to take a stream, of which there are no bytes yet. After ZAXBRIAR_OK *fed is what the
  * calls below take, and otherwise a null pointer. Returns ZAXBRIAR_NO_MEMORY; or
  * ZAXBRIAR_BAD_ARGUMENT for options that don't exist, or a null pointer. (A stride or a crop that
  * doesn't fit the picture is one of the calls that describe and show it.)
  *
  * The options are copied, with the functions of `memory`, which are called by the calls below too.
- * `places` has to stay until zaxbriar_fed_free: zaxbriar_fed_info and zaxbriar_fed_show store there
- * what the bytes have that were fed so far. */
+ * `places` has to stay until zaxbriar_fed_free: zaxbriar_fed_info, zaxbriar_fed_show and
+ * zaxbriar_fed_rows store there what the bytes have that were fed so far. */
 ZAXBRIAR_CALL zaxbriar_result zaxbriar_fed_new(const zaxbriar_options *options,
                                                zaxbriar_fed **fed);
 
 /* Copies the next bytes of the stream, of which there may be any number. Returns ZAXBRIAR_OK;
  * ZAXBRIAR_NO_MEMORY, after which none of them were taken, so that they can be fed again; or
- * ZAXBRIAR_BAD_ARGUMENT for a null pointer. The call reads nothing of them. */
+ * ZAXBRIAR_BAD_ARGUMENT for a null pointer, and after zaxbriar_fed_end. The call reads nothing of
+ * them. */
 ZAXBRIAR_CALL zaxbriar_result zaxbriar_fed_feed(zaxbriar_fed *fed, const void *bytes, size_t size);
 
 /* Describes the picture, as zaxbriar_read_info does of all bytes that were fed. The header is read
@@ -592,6 +598,70 @@ ZAXBRIAR_CALL zaxbriar_result zaxbriar_fed_info(zaxbriar_fed *fed, zaxbriar_pict
  * were fed. More bytes can be fed after it, whatever it returns. `picture` may be null. */
 ZAXBRIAR_CALL zaxbriar_result zaxbriar_fed_show(zaxbriar_fed *fed, void *pixels,
                                                 size_t pixels_size, zaxbriar_picture *picture);
+
+/* Begins to give the lines of the picture one by one, from the top, soon after their bytes have
+ * come: for a program that needs each line once, and no whole picture in memory.
+ *
+ *     for (;;) {
+ *         size = receive(piece);
+ *         if (zaxbriar_fed_feed(fed, piece, size) != ZAXBRIAR_OK)
+ *             fail("out of memory");
+ *         if (line == NULL) {
+ *             zaxbriar_result answer = zaxbriar_fed_rows(fed, &picture);
+ *             if (answer == ZAXBRIAR_TRUNCATED && size != 0)
+ *                 continue;
+ *             if (answer != ZAXBRIAR_OK)
+ *                 fail(picture.text);
+ *             line = malloc(picture.row_bytes);
+ *         }
+ *         if (size == 0)
+ *             zaxbriar_fed_end(fed);
+ *         while (zaxbriar_fed_next(fed, line, picture.row_bytes) == ZAXBRIAR_OK)
+ *             draw(line);
+ *         if (size == 0)
+ *             break;
+ *     }
+ *     if (zaxbriar_fed_refusal(fed, &picture) != ZAXBRIAR_END)
+ *         fail(picture.text);
+ *
+ * Describes the picture as zaxbriar_fed_info does, which is ZAXBRIAR_TRUNCATED while the header
+ * isn't complete: feed more, and call again. After ZAXBRIAR_OK the stream gives lines from then on,
+ * and zaxbriar_fed_info, zaxbriar_fed_show and this call are ZAXBRIAR_BAD_ARGUMENT; after any other
+ * result nothing has changed. `picture` may be null.
+ *
+ * Of the options, the limits, `transform`, `memory` and `places` count. The others have to be zero,
+ * those of the scale (min_width, min_height and scale) too, or else the call returns
+ * ZAXBRIAR_BAD_ARGUMENT. `max_bytes` limits picture.decoding_bytes, as in the other calls.
+ *
+ * If the first scan has all components of a sequential frame, as in most files, each row of MCUs is
+ * decoded once, when its bytes are there, which are dropped then: in memory are two rows of MCUs at
+ * most, and the bytes that were fed and not yet read. A row is tried once three quarters as many
+ * bytes have come as the last one took, or pieces end with an EOI marker, and again once there are
+ * half as many more, so that a line may come that much after its bytes. Other files (progressive,
+ * lossless, or with a scan for each component) give all lines after zaxbriar_fed_end, and take
+ * picture.decoding_bytes then. */
+ZAXBRIAR_CALL zaxbriar_result zaxbriar_fed_rows(zaxbriar_fed *fed, zaxbriar_picture *picture);
+
+/* Writes the next line: picture.row_bytes bytes. Returns ZAXBRIAR_OK; or ZAXBRIAR_WAITING while the
+ * bytes of the line aren't all there: feed more, or call zaxbriar_fed_end; or ZAXBRIAR_END after
+ * the last line, once the end was said, if the stream has no fault; or ZAXBRIAR_NO_ROOM if
+ * line_size is less than picture.row_bytes, in which case the next call gives the line; or why the
+ * stream is refused, of which zaxbriar_fed_refusal tells more; or ZAXBRIAR_BAD_ARGUMENT for a null
+ * pointer, and before zaxbriar_fed_rows.
+ *
+ * However the stream was cut, lines and refusals are those of zaxbriar_rows_next, of all bytes in
+ * one piece; what it says of lines before a refusal counts here too. Before zaxbriar_fed_end the
+ * only refusal is ZAXBRIAR_NO_MEMORY: at a fault the call is ZAXBRIAR_WAITING until then. After
+ * ZAXBRIAR_END and a refusal each further call returns the same. */
+ZAXBRIAR_CALL zaxbriar_result zaxbriar_fed_next(zaxbriar_fed *fed, void *line, size_t line_size);
+
+/* Says that no more bytes come. Returns ZAXBRIAR_OK; or ZAXBRIAR_BAD_ARGUMENT for a null pointer,
+ * and before zaxbriar_fed_rows. */
+ZAXBRIAR_API zaxbriar_result zaxbriar_fed_end(zaxbriar_fed *fed);
+
+/* Tells why zaxbriar_fed_next has refused the stream, as zaxbriar_rows_refusal does.
+ * ZAXBRIAR_BAD_ARGUMENT also before zaxbriar_fed_rows. */
+ZAXBRIAR_API zaxbriar_result zaxbriar_fed_refusal(zaxbriar_fed *fed, zaxbriar_picture *picture);
 
 /* Frees all memory of what zaxbriar_fed_new has returned, at any time between two calls. A null
  * pointer is ignored. */

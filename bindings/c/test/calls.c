@@ -450,9 +450,9 @@ static void limited_part(void) {
 }
 
 static void names(void) {
-    for (int answer = ZAXBRIAR_OK; answer <= ZAXBRIAR_TOO_MANY_PASSES; answer++) {
+    for (int answer = ZAXBRIAR_OK; answer <= ZAXBRIAR_WAITING; answer++) {
         CHECK(zaxbriar_answer_name(answer)[0] != 0);
-        for (int other = ZAXBRIAR_OK; other <= ZAXBRIAR_TOO_MANY_PASSES + 1; other++)
+        for (int other = ZAXBRIAR_OK; other <= ZAXBRIAR_WAITING + 1; other++)
             CHECK(other == answer ||
                   strcmp(zaxbriar_answer_name(answer), zaxbriar_answer_name(other)) != 0);
     }

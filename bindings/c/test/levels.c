@@ -84,6 +84,16 @@ static uint32_t called(int of, uint32_t number, int right) {
                                       zaxbriar_picture *p) {                                       \
         return called(N, 16, k == &kept && x == bytes + 1 && m == 2 && p == &picture);             \
     }                                                                                              \
+    uint32_t zaxbriar_v##N##_fed_rows(zaxbriar_kept *k, zaxbriar_picture *p) {                     \
+        return called(N, 19, k == &kept && p == &picture);                                         \
+    }                                                                                              \
+    uint32_t zaxbriar_v##N##_fed_next(zaxbriar_kept *k, uint8_t *l, size_t m) {                    \
+        return called(N, 20, k == &kept && l == bytes + 1 && m == 2);                              \
+    }                                                                                              \
+    uint32_t zaxbriar_v##N##_fed_end(zaxbriar_kept *k) { return called(N, 21, k == &kept); }       \
+    uint32_t zaxbriar_v##N##_fed_refusal(zaxbriar_kept *k, zaxbriar_picture *p) {                  \
+        return called(N, 22, k == &kept && p == &picture);                                         \
+    }                                                                                              \
     void zaxbriar_v##N##_fed_find_metadata(zaxbriar_kept *k, zaxbriar_places *p) {                 \
         called(N, 17, k == &kept && p == &places);                                                 \
     }                                                                                              \
@@ -114,10 +124,14 @@ int main(void) {
         CHECK(zaxbriar_checked_fed_feed(&kept, bytes, 3) == base + 14);
         CHECK(zaxbriar_checked_fed_info(&kept, &picture) == base + 15);
         CHECK(zaxbriar_checked_fed_show(&kept, bytes + 1, 2, &picture) == base + 16);
+        CHECK(zaxbriar_checked_fed_rows(&kept, &picture) == base + 19);
+        CHECK(zaxbriar_checked_fed_next(&kept, bytes + 1, 2) == base + 20);
+        CHECK(zaxbriar_checked_fed_end(&kept) == base + 21);
+        CHECK(zaxbriar_checked_fed_refusal(&kept, &picture) == base + 22);
         zaxbriar_checked_fed_find_metadata(&kept, &places);
         zaxbriar_checked_fed_free(&kept);
     }
-    CHECK(calls == 36);
+    CHECK(calls == 44);
     printf("levels: %d calls; %d faults\n", calls, faults);
     return faults != 0;
 }

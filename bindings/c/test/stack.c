@@ -7,7 +7,7 @@
 #include "common.h"
 
 enum { STACK = 128 * 1024, FENCE = 4096, PAINT = 0x77, MOST_USED = 64 * 1024 };
-enum call { DECODE, UPRIGHT, READ_INFO, METADATA, JOINED, ROWS, NOTHING, CALLS };
+enum call { DECODE, UPRIGHT, READ_INFO, METADATA, JOINED, ROWS, FED, NOTHING, CALLS };
 
 static struct bytes jpeg;
 static unsigned char *pixels;
@@ -20,6 +20,24 @@ static int all_rows(zaxbriar_picture *picture) {
     int answer = zaxbriar_rows_new(jpeg.start, jpeg.size, NULL, &rows, picture);
     while (answer == ZAXBRIAR_OK) answer = zaxbriar_rows_next(rows, pixels, picture->row_bytes);
     zaxbriar_rows_free(rows);
+    return answer;
+}
+
+/* The same of bytes that arrive in two pieces. */
+static int all_fed_rows(zaxbriar_picture *picture) {
+    static zaxbriar_places places;
+    static const zaxbriar_options with_places = {.places = &places};
+    zaxbriar_fed *fed;
+    size_t half = jpeg.size / 2;
+    int answer = zaxbriar_fed_new(&with_places, &fed);
+    if (answer == ZAXBRIAR_OK) answer = zaxbriar_fed_feed(fed, jpeg.start, half);
+    if (answer == ZAXBRIAR_OK) answer = zaxbriar_fed_rows(fed, picture);
+    while (answer == ZAXBRIAR_OK) answer = zaxbriar_fed_next(fed, pixels, picture->row_bytes);
+    if (answer == ZAXBRIAR_WAITING)
+        answer = zaxbriar_fed_feed(fed, jpeg.start + half, jpeg.size - half);
+    zaxbriar_fed_end(fed);
+    while (answer == ZAXBRIAR_OK) answer = zaxbriar_fed_next(fed, pixels, picture->row_bytes);
+    zaxbriar_fed_free(fed);
     return answer;
 }
 
@@ -46,6 +64,7 @@ static void *make_call(void *unused) {
                                           &length);
         break;
     case ROWS: answer = all_rows(&picture); break;
+    case FED: answer = all_fed_rows(&picture); break;
     default: answer = 0;
     }
     return &answer;
@@ -95,8 +114,9 @@ int main(int argc, char **argv) {
     for (call = 0; call < NOTHING; call++) CHECK(most[call] - most[NOTHING] <= MOST_USED);
     printf("stack: %ld files on a thread of %d bytes, of which a thread that makes no call uses "
            "%zu; with it decode %zu, "
-           "upright %zu, read_info %zu, metadata %zu, joined_metadata %zu, rows %zu; %d faults\n",
+           "upright %zu, read_info %zu, metadata %zu, joined_metadata %zu, rows %zu, lines of "
+           "pieces %zu; %d faults\n",
            files, STACK, most[NOTHING], most[DECODE], most[UPRIGHT], most[READ_INFO],
-           most[METADATA], most[JOINED], most[ROWS], faults);
+           most[METADATA], most[JOINED], most[ROWS], most[FED], faults);
     return faults != 0;
 }

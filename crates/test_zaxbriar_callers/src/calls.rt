@@ -2,6 +2,8 @@
 ghost use Rattle.std.specs.Prelude.{◌≡◌, ◌⊎◌, ◌<◌, None, Some, false, length, true};
 ghost use Rattle.jpeg_bits.specs.Reading.{Fault};
 ghost use Rattle.jpeg_meaning.specs.Stream.{header_at};
+ghost use Rattle.zaxbriar_calls.specs.ArrivedLines.{BeginsFedReading, EndsFedBytes};
+ghost use Rattle.zaxbriar_calls.specs.ArrivedLines.{TakesFedNext, TellsFedRefusal};
 ghost use Rattle.zaxbriar_calls.specs.Boxed.{is_fitted};
 ghost use Rattle.zaxbriar_calls.specs.Crops.{is_cropped};
 ghost use Rattle.zaxbriar_calls.specs.Faults.{IsOfRoomNumber};
@@ -14,6 +16,7 @@ ghost use Rattle.zaxbriar_calls.specs.Passes.{exceeds};
 ghost use Rattle.zaxbriar_calls.specs.Places.{places_of};
 ghost use Rattle.zaxbriar_calls.specs.StreamSegments.{IsCut};
 ghost use Rattle.zaxbriar_calls.specs.TakenLines.{BeginsReading, TakesNext, TellsRefusal};
+ghost use Rattle.zaxbriar_calls.specs.TakenStreams.{DescribesArrived, ShowsArrived, TakesBytes};
 ghost use Rattle.zaxbriar_calls.specs.declared.extents.Extent.TheVariants.{Whole, Partial};
 ghost use Rattle.zaxbriar_calls.specs.declared.extents.Extent.TheVariants.{Planes};
 
@@ -221,4 +224,55 @@ pub fn told_refusal(alloc: Global, kept: &mut Kept, picture: &mut Picture) -> u3
     ensures { TellsRefusal kept.old.value kept.new.value picture.old picture.new result }
 {
     handle_calls::tell_refusal(alloc, kept, picture)
+}
+
+/// Calls `feed`, and says what takes a piece, and when none of it was taken.
+pub fn fed(alloc: Global, kept: &mut Kept, bytes: &[u8]) -> u32
+    ensures { TakesBytes kept.old.value kept.new.value bytes.now result }
+{
+    handle_calls::feed(alloc, kept, bytes)
+}
+
+/// Calls `stream_info`, and says what is described, and that the stream stays.
+pub fn described_arrived(alloc: Global, kept: &mut Kept, picture: &mut Picture) -> u32
+    ensures { DescribesArrived kept.old.value kept.new.value picture.old picture.new result }
+{
+    handle_calls::stream_info(alloc, kept, picture)
+}
+
+/// Calls `show`, and says what is shown, and that the stream stays.
+pub fn shown(alloc: Global, kept: &mut Kept, pixels: &mut [u8], picture: &mut Picture) -> u32
+    ensures { ShowsArrived kept.old.value kept.new.value pixels.old pixels.new picture.old
+        picture.new result }
+{
+    handle_calls::show(alloc, kept, pixels, picture)
+}
+
+/// Calls `begin_fed_rows`, and says that a reader of the bytes is kept after OK, and the stream
+/// otherwise.
+pub fn begun_fed(alloc: Global, kept: &mut Kept, picture: &mut Picture) -> u32
+    ensures { BeginsFedReading kept.old.value kept.new.value picture.old picture.new result }
+{
+    handle_calls::begin_fed_rows(alloc, kept, picture)
+}
+
+/// Calls `next_fed_row`, and says which line is the next, and why there is none.
+pub fn next_fed_line(alloc: Global, kept: &mut Kept, line: &mut [u8]) -> u32
+    ensures { TakesFedNext kept.old.value kept.new.value line.old line.new result }
+{
+    handle_calls::next_fed_row(alloc, kept, line)
+}
+
+/// Calls `end_fed_bytes`, and says that the bytes have ended, and that the reader stays.
+pub fn ended_bytes(alloc: Global, kept: &mut Kept) -> u32
+    ensures { EndsFedBytes kept.old.value kept.new.value result }
+{
+    handle_calls::end_fed_bytes(alloc, kept)
+}
+
+/// Calls `tell_fed_refusal`, and says what a picture is told, and that the reader stays.
+pub fn told_fed_refusal(alloc: Global, kept: &mut Kept, picture: &mut Picture) -> u32
+    ensures { TellsFedRefusal kept.old.value kept.new.value picture.old picture.new result }
+{
+    handle_calls::tell_fed_refusal(alloc, kept, picture)
 }

@@ -10,6 +10,8 @@
 
 ghost use Rattle.std.specs.Prelude.{◌≡◌};
 ghost use Rattle.std.specs.declared.option.Option.TheVariants.{None};
+ghost use Rattle.zaxbriar_calls.specs.ArrivedLines.{BeginsFedReading, EndsFedBytes};
+ghost use Rattle.zaxbriar_calls.specs.ArrivedLines.{TakesFedNext, TellsFedRefusal};
 ghost use Rattle.zaxbriar_calls.specs.CopiesJoined.{CopiesJoined};
 ghost use Rattle.zaxbriar_calls.specs.CopiesMetadata.{CopiesMetadata};
 ghost use Rattle.zaxbriar_calls.specs.Fills.{Fills};
@@ -222,6 +224,48 @@ pub extern "C" fn zaxbriar_checked_fed_show(
         picture.new result }
 {
     handle_calls::show(alloc, kept, pixels, picture)
+}
+
+/// Describes the picture of a stream, by the header in the bytes that were fed, and begins to give
+/// its lines: `kept` has what gives them after OK.
+#[unsafe(no_mangle)]
+pub extern "C" fn zaxbriar_checked_fed_rows(
+    alloc: Global,
+    kept: &mut Kept,
+    picture: &mut Picture,
+) -> u32
+    ensures { BeginsFedReading kept.old.value kept.new.value picture.old picture.new result }
+{
+    handle_calls::begin_fed_rows(alloc, kept, picture)
+}
+
+/// Writes the next line of the picture of a stream, once its bytes were fed.
+#[unsafe(no_mangle)]
+pub extern "C" fn zaxbriar_checked_fed_next(alloc: Global, kept: &mut Kept, line: &mut [u8]) -> u32
+    ensures { TakesFedNext kept.old.value kept.new.value line.old line.new result }
+{
+    handle_calls::next_fed_row(alloc, kept, line)
+}
+
+/// Says that no more bytes of a stream come.
+#[unsafe(no_mangle)]
+pub extern "C" fn zaxbriar_checked_fed_end(alloc: Global, kept: &mut Kept) -> u32
+    ensures { EndsFedBytes kept.old.value kept.new.value result }
+{
+    handle_calls::end_fed_bytes(alloc, kept)
+}
+
+/// Writes why a stream that was fed is refused into a picture, whose other members stay: its text
+/// and the feature.
+#[unsafe(no_mangle)]
+pub extern "C" fn zaxbriar_checked_fed_refusal(
+    alloc: Global,
+    kept: &mut Kept,
+    picture: &mut Picture,
+) -> u32
+    ensures { TellsFedRefusal kept.old.value kept.new.value picture.old picture.new result }
+{
+    handle_calls::tell_fed_refusal(alloc, kept, picture)
 }
 
 /// Finds the metadata in the bytes that were fed.

@@ -1,4 +1,5 @@
 mod AllLines
+mod BegunFedLines
 mod BegunRows
 mod Copied
 mod CountedFrames
@@ -8,6 +9,7 @@ mod Decoded
 mod Densities
 mod Exceeded
 mod Fails
+mod FedLines
 mod Filled
 mod FoundPlaces
 mod FoundSegments

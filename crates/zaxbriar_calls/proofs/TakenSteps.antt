@@ -76,7 +76,7 @@ whole-lines (Some s) line bytes e are =
 -- ---- a reading
 
 -- Whole lines of which less than a line is left were all taken.
-none-left : (all taken line bytes : ℕ) → bytes ≡ all * line → bytes < taken * line + line → bytes ≤ taken * line
+pub none-left : (all taken line bytes : ℕ) → bytes ≡ all * line → bytes < taken * line + line → bytes ≤ taken * line
 none-left all taken line bytes e short = go (cases_lt taken all)
   where
     go : (taken < all) ⊎ (all ≤ taken) → bytes ≤ taken * line

@@ -1,4 +1,5 @@
 pub mod Arrived
+pub mod ArrivedLines
 pub mod Boxed
 pub mod BoxedLines
 pub mod CopiesJoined

@@ -4,8 +4,9 @@ use Rattle.std.specs.Option.{MatchOption}
 use Rattle.std.specs.declared.option.Option.{Option}
 use Rattle.std.specs.declared.option.Option.TheVariants.{None, Some}
 use Rattle.zaxbriar_calls.specs.Arrived.{Arrived}
+use Rattle.zaxbriar_calls.specs.ArrivedLines.{FeedsLines}
 use Rattle.zaxbriar_calls.specs.Fills.{Fills}
-use Rattle.zaxbriar_calls.specs.Handles.{stream_in}
+use Rattle.zaxbriar_calls.specs.Handles.{fed_rows_in, stream_in}
 use Rattle.zaxbriar_calls.specs.Limits.{are_known}
 use Rattle.zaxbriar_calls.specs.Places.{places_of}
 use Rattle.zaxbriar_calls.specs.ReadsInfo.{ReadsInfo}
@@ -33,11 +34,13 @@ TakesPiece s old new piece code =
     ((code ≡ 0) × (new ≡ Some (Stream (record s { bytes = s.bytes ++ piece }))))
     ⊎ ((code ≡ 4) × (new ≡ old))
 
--- The stream that is held takes a piece. Where none is, it is BAD_ARGUMENT, here and below, and
--- nothing changes.
+-- The stream that is held takes a piece, or what gives its lines. Where neither is, it is
+-- BAD_ARGUMENT, here and below, and nothing changes.
 abbrev pub TakesBytes : Option Handle → Option Handle → List ℕ → ℕ → Type 0
 TakesBytes old new piece code =
-    MatchOption (stream_in old) ((new ≡ old) × (code ≡ 6))
+    MatchOption (stream_in old)
+    (MatchOption (fed_rows_in old) ((new ≡ old) × (code ≡ 6))
+    (λ r. FeedsLines old new r piece code))
     (λ s. TakesPiece s old new piece code)
 
 -- The picture of the stream that is held is described, as `read_info` describes that of all bytes

@@ -35,6 +35,8 @@ pub const TOO_MANY_PASSES: u32 = 10;
 
 pub const END: u32 = 11;
 
+pub const WAITING: u32 = 12;
+
 /// The bytes of a refusal's text, with the zero that ends it.
 pub const TEXT_BYTES: usize = 112;
 

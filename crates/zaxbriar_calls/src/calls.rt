@@ -4,7 +4,7 @@
 //! its arguments, and has freed all of its memory when it returns. (`handle_calls` has those that
 //! go on with what another call has begun.) The number that a call returns is one of
 //! `bindings/c/zaxbriar.h`: 0 OK, 1 MALFORMED, 2 UNSUPPORTED, 3 TRUNCATED, 4 NO_MEMORY, 5 NO_ROOM,
-//! 6 BAD_ARGUMENT, 7 NO_DATA, 8 TOO_LARGE, 9 PARTIAL, 10 TOO_MANY_PASSES, 11 END.
+//! 6 BAD_ARGUMENT, 7 NO_DATA, 8 TOO_LARGE, 9 PARTIAL, 10 TOO_MANY_PASSES, 11 END, 12 WAITING.
 ghost use Rattle.std.specs.Prelude.{◌≡◌, ℕ, List};
 ghost use Rattle.zaxbriar_calls.specs.CopiesJoined.{CopiesJoined};
 ghost use Rattle.zaxbriar_calls.specs.CopiesMetadata.{CopiesMetadata};

@@ -1,5 +1,6 @@
 //! What a C program holds from one call to the next.
 use crate::fed::FedStream;
+use crate::fed_rows::FedRowReader;
 use crate::rows::RowReader;
 
 /// What a call goes on with that another one has begun.
@@ -9,4 +10,6 @@ pub enum Handle {
     Rows(RowReader),
     /// A stream that arrives in pieces.
     Stream(FedStream),
+    /// A picture that is given line by line while its stream arrives.
+    FedRows(FedRowReader),
 }

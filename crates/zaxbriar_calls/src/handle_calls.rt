@@ -5,6 +5,9 @@
 //! are those of `calls`. Where what a call goes on with isn't kept, it is BAD_ARGUMENT.
 ghost use Rattle.std.specs.Prelude.{◌≡◌, OnErr, OnOk, false, true};
 ghost use Rattle.std.specs.declared.option.Option.TheVariants.{None, Some};
+ghost use Rattle.zaxbriar_calls.specs.ArrivedLines.{BeginsFedReading, BeginsHeldLines};
+ghost use Rattle.zaxbriar_calls.specs.ArrivedLines.{EndsFedBytes, IsStreamForLines, TakesFedNext};
+ghost use Rattle.zaxbriar_calls.specs.ArrivedLines.{TellsFedRefusal};
 ghost use Rattle.zaxbriar_calls.specs.Meanings.{no_picture};
 ghost use Rattle.zaxbriar_calls.specs.Outcomes.{DescribesStream};
 ghost use Rattle.zaxbriar_calls.specs.TakenLines.{BeginsReading, TakesNext, TellsRefusal};
@@ -17,13 +20,14 @@ use crate::calls::{read_info, tell};
 use crate::extents::Extent;
 use crate::features::outcome_feature;
 use crate::fed::FedStream;
+use crate::fed_rows::{FedRowReader, are_for_fed_rows, describe_settings};
 use crate::handle::Handle;
 use crate::kept::Kept;
 use crate::options::{Options, are_known};
 use crate::picture::{NO_PICTURE, Picture};
 use crate::places::{Places, find_places};
 use crate::rows::{are_for_rows, begin};
-use jpeg_decoder::error::Error;
+use jpeg_decoder::error::{Error, Result};
 use std::alloc::Global;
 use std::mem::replace;
 
@@ -112,7 +116,7 @@ fn take_line(alloc: Global, handle: &mut Handle, line: &mut [u8]) -> u32
 {
     match handle {
         Handle::Rows(reader) => reader.next_line(alloc, line),
-        Handle::Stream(_) => BAD_ARGUMENT,
+        Handle::Stream(_) | Handle::FedRows(_) => BAD_ARGUMENT,
     }
 }
 
@@ -139,7 +143,7 @@ pub fn tell_refusal(alloc: Global, kept: &mut Kept, picture: &mut Picture) -> u3
     };
     let code = match &*handle {
         Handle::Rows(reader) => reader.tell_refusal(picture),
-        Handle::Stream(_) => BAD_ARGUMENT,
+        Handle::Stream(_) | Handle::FedRows(_) => BAD_ARGUMENT,
     };
     let _none = replace(kept, Kept::of(handle)).into_box();
     code
@@ -162,16 +166,31 @@ pub fn begin_stream(alloc: Global, options: &Options, kept: &mut Kept) -> u32
     }
 }
 
-/// Takes the next bytes of the stream that is held, if one is, or none of them for lack of memory.
+/// Returns the number of the outcome of a call whose only error is a lack of memory.
+fn fed_number(fed: Result<()>) -> u32
+    ensures ok { OnOk fed (result ≡ 0) }
+    ensures err { OnErr fed (result ≡ 4) }
+{
+    match fed {
+        Ok(()) => OK,
+        Err(_) => NO_MEMORY,
+    }
+}
+
+/// Takes the next bytes of the stream that is held, or of what gives its lines, if one is, or none
+/// of them for lack of memory, nor after their end was said.
 fn take_bytes(handle: &mut Handle, bytes: &[u8]) -> u32
     ensures { TakesBytes (Some handle.old) (Some handle.new) bytes.now result }
 {
-    let Handle::Stream(stream) = handle else {
-        return BAD_ARGUMENT;
-    };
-    match stream.feed(bytes) {
-        Ok(()) => OK,
-        Err(_) => NO_MEMORY,
+    match handle {
+        Handle::Stream(stream) => fed_number(stream.feed(bytes)),
+        Handle::FedRows(reader) => {
+            if reader.has_ended() {
+                return BAD_ARGUMENT;
+            }
+            fed_number(reader.feed(bytes))
+        }
+        Handle::Rows(_) => BAD_ARGUMENT,
     }
 }
 
@@ -197,7 +216,7 @@ pub fn stream_info(alloc: Global, kept: &mut Kept, picture: &mut Picture) -> u32
     };
     let code = match &*handle {
         Handle::Stream(stream) => read_info(alloc, stream.bytes(), stream.options(), picture),
-        Handle::Rows(_) => BAD_ARGUMENT,
+        Handle::Rows(_) | Handle::FedRows(_) => BAD_ARGUMENT,
     };
     let _none = replace(kept, Kept::of(handle)).into_box();
     code
@@ -242,4 +261,129 @@ pub fn find_stream_metadata(alloc: Global, kept: &mut Kept, places: &mut Places)
         find_places(stream.bytes(), places);
     }
     let _none = replace(kept, Kept::of(handle)).into_box();
+}
+
+/// Describes the picture of the stream that is held, and lets a reader of its lines be held in its
+/// place, of all bytes that were fed. A picture for whose reader there is no memory isn't described.
+fn begin_fed_reading(
+    alloc: Global,
+    handle: &mut Handle,
+    picture: &mut Picture,
+) -> std::result::Result<(), Refusal>
+    requires none { picture.old ≡ no_picture }
+    requires stream { IsStreamForLines handle.old }
+    ensures { BeginsHeldLines handle.old handle.new picture.new result }
+{
+    let Handle::Stream(stream) = &*handle else {
+        unreachable!()
+    };
+    let settings = describe_settings(alloc, stream.bytes(), stream.options(), picture)?;
+    match FedRowReader::new(alloc, settings, stream.bytes()) {
+        Ok(reader) => {
+            *handle = Handle::FedRows(reader);
+            Ok(())
+        }
+        Err(error) => {
+            *picture = NO_PICTURE;
+            Err(Refusal::from(error))
+        }
+    }
+}
+
+/// Begins to give the lines of the stream that is held, if one is.
+fn turn_to_lines(alloc: Global, handle: &mut Handle, picture: &mut Picture) -> u32
+    ensures { BeginsFedReading (Some handle.old) (Some handle.new) picture.old picture.new result }
+{
+    let Handle::Stream(stream) = &*handle else {
+        return BAD_ARGUMENT;
+    };
+    *picture = NO_PICTURE;
+    if !are_for_fed_rows(stream.options()) {
+        let misuse = Misuse::Of("an option doesn't exist for lines that come while bytes arrive");
+        let unknown: std::result::Result<(), Refusal> = Err(Refusal::Argument(misuse));
+        return answer(alloc, unknown, &mut picture.text);
+    }
+    let outcome = begin_fed_reading(alloc, handle, picture);
+    let feature = outcome_feature(&outcome);
+    picture.feature = feature.number;
+    picture.feature_argument = feature.argument;
+    answer(alloc, outcome, &mut picture.text)
+}
+
+/// Describes the picture of the stream that is kept, as `stream_info` does, and begins to give its
+/// lines: after OK a reader of them is kept in its place.
+pub fn begin_fed_rows(alloc: Global, kept: &mut Kept, picture: &mut Picture) -> u32
+    ensures { BeginsFedReading kept.old.value kept.new.value picture.old picture.new result }
+{
+    let Some(mut handle) = replace(kept, Kept::none(alloc)).into_box() else {
+        return BAD_ARGUMENT;
+    };
+    let code = turn_to_lines(alloc, &mut handle, picture);
+    let _none = replace(kept, Kept::of(handle)).into_box();
+    code
+}
+
+/// Writes the next line of the reader that is held, if one is.
+fn take_fed_line(alloc: Global, handle: &mut Handle, line: &mut [u8]) -> u32
+    ensures { TakesFedNext (Some handle.old) (Some handle.new) line.old line.new result }
+{
+    match handle {
+        Handle::FedRows(reader) => reader.next_line(alloc, line),
+        Handle::Rows(_) | Handle::Stream(_) => BAD_ARGUMENT,
+    }
+}
+
+/// Writes the next line of a stream whose lines are given while its bytes arrive, and returns OK; or
+/// WAITING until more bytes are fed or their end is said, END after the last line, or why the stream
+/// is refused.
+pub fn next_fed_row(alloc: Global, kept: &mut Kept, line: &mut [u8]) -> u32
+    ensures { TakesFedNext kept.old.value kept.new.value line.old line.new result }
+{
+    let Some(mut handle) = replace(kept, Kept::none(alloc)).into_box() else {
+        return BAD_ARGUMENT;
+    };
+    let code = take_fed_line(alloc, &mut handle, line);
+    let _none = replace(kept, Kept::of(handle)).into_box();
+    code
+}
+
+/// Says that no more bytes come to the reader that is held, if one is.
+fn end_bytes(handle: &mut Handle) -> u32
+    ensures { EndsFedBytes (Some handle.old) (Some handle.new) result }
+{
+    match handle {
+        Handle::FedRows(reader) => {
+            reader.end();
+            OK
+        }
+        Handle::Rows(_) | Handle::Stream(_) => BAD_ARGUMENT,
+    }
+}
+
+/// Says that no more bytes come to what gives the lines of a stream.
+pub fn end_fed_bytes(alloc: Global, kept: &mut Kept) -> u32
+    ensures { EndsFedBytes kept.old.value kept.new.value result }
+{
+    let Some(mut handle) = replace(kept, Kept::none(alloc)).into_box() else {
+        return BAD_ARGUMENT;
+    };
+    let code = end_bytes(&mut handle);
+    let _none = replace(kept, Kept::of(handle)).into_box();
+    code
+}
+
+/// Writes why the stream was refused whose lines are given while its bytes arrive, as
+/// `tell_refusal` does.
+pub fn tell_fed_refusal(alloc: Global, kept: &mut Kept, picture: &mut Picture) -> u32
+    ensures { TellsFedRefusal kept.old.value kept.new.value picture.old picture.new result }
+{
+    let Some(handle) = replace(kept, Kept::none(alloc)).into_box() else {
+        return BAD_ARGUMENT;
+    };
+    let code = match &*handle {
+        Handle::FedRows(reader) => reader.tell_refusal(picture),
+        Handle::Rows(_) | Handle::Stream(_) => BAD_ARGUMENT,
+    };
+    let _none = replace(kept, Kept::of(handle)).into_box();
+    code
 }

@@ -18,6 +18,7 @@ mod description;
 pub mod extents;
 mod features;
 pub mod fed;
+pub mod fed_rows;
 pub mod handle;
 pub mod handle_calls;
 mod header;

@@ -29,8 +29,19 @@ pub struct Reason {
     pub text: [u8; TEXT_BYTES],
 }
 
+impl Reason {
+    /// Writes it into a picture.
+    pub fn tell(&self, picture: &mut Picture)
+        ensures { picture.new ≡ telling self.now picture.old }
+    {
+        picture.feature = self.feature.number;
+        picture.feature_argument = self.feature.argument;
+        picture.text = self.text;
+    }
+}
+
 /// Nothing was refused.
-const NO_REASON: Reason = Reason {
+pub(crate) const NO_REASON: Reason = Reason {
     feature: Feature {
         number: 0,
         argument: 0,
@@ -206,9 +217,7 @@ impl RowReader {
         ensures told { picture.new ≡ telling self.now.reason picture.old }
         ensures answer { result ≡ self.now.answer }
     {
-        picture.feature = self.reason.feature.number;
-        picture.feature_argument = self.reason.feature.argument;
-        picture.text = self.reason.text;
+        self.reason.tell(picture);
         self.answer
     }
 }
