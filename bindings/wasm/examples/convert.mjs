@@ -1,7 +1,8 @@
-/* node convert.mjs FILE OUTPUT: makes a PNG file of a JPEG file, in Node, line by line: of most
- * files neither picture is in memory as a whole. It may be grey or in colour, of 8 or 16 bits
- * a sample, and isn't turned upright. OUTPUT is made only where the file has no fault. */
-import { createWriteStream, readFileSync, renameSync, rmSync } from 'node:fs';
+/* node convert.mjs FILE OUTPUT: makes a PNG file of a JPEG file, in Node, line by line as it is
+ * read: of most files neither they nor the picture are in memory as a whole. It may be grey or in
+ * colour, of 8 or 16 bits a sample, and isn't turned upright. OUTPUT is made only where the file
+ * has no fault. FILE may be -, for standard input. */
+import { createReadStream, createWriteStream, renameSync, rmSync } from 'node:fs';
 import { pipeline } from 'node:stream/promises';
 import { createDeflate } from 'node:zlib';
 import { load } from 'zaxbriar';
@@ -13,8 +14,8 @@ const LIMITS = { maxPixels: 2e9, maxBytes: 4e9 };
 
 /* The lines as PNG has them: before each stands the number of its filter, and the higher byte of
  * a sample is first. */
-function* linesOf(rows) {
-    for (const row of rows) {
+async function* linesOf(rows) {
+    for await (const row of rows) {
         const line = Buffer.from(row.buffer);
         yield Buffer.concat([NO_FILTER, rows.picture.sampleBytes === 2 ? line.swap16() : line]);
     }
@@ -37,11 +38,15 @@ if (!output) {
 const part = `${output}.part`;
 try {
     const zaxbriar = await load();
-    const rows = zaxbriar.rows(readFileSync(path), LIMITS);
-    const header = pngHeader(rows.picture);
+    const input = path === '-' ? process.stdin : createReadStream(path);
+    const rows = zaxbriar.rows(input, LIMITS);
     const file = async function* (compressed) {
-        yield* [SIGNATURE, header];
-        for await (const data of compressed) yield chunk('IDAT', data);
+        let header = null;
+        for await (const data of compressed) {
+            // (by now there is a line, and with it the picture)
+            if (!header) yield* [SIGNATURE, (header = pngHeader(rows.picture))];
+            yield chunk('IDAT', data);
+        }
         yield chunk('IEND', Buffer.alloc(0));
     };
     await pipeline(linesOf(rows), createDeflate(), file, createWriteStream(part));

@@ -311,6 +311,32 @@ export interface Rows extends IterableIterator<Data> {
     return(): IteratorResult<Data, undefined>;
 }
 
+/** The options of `rows` for a stream, whose lines have their full size. */
+export type ArrivingRowsOptions = Pick<
+    Options,
+    'colorTransform' | 'maxPixels' | 'maxBytes' | 'maxPasses'
+>;
+
+/**
+ * The lines of a picture while its stream arrives, each as soon as its bytes are there. The stream
+ * is read when a line is asked for, and what it takes in the module's memory is freed as that of
+ * `Rows` is.
+ */
+export interface ArrivingRows extends AsyncIterableIterator<Data> {
+    /** Null until there is a line. */
+    readonly picture: Picture | null;
+    /** How many lines were given. */
+    readonly lines: number;
+    /**
+     * Gives the next line, as that of `Rows` does. The promise is rejected with what `rows` throws
+     * for these bytes, also for their header, or with the stream's own error. A fault is told once
+     * the stream has ended.
+     */
+    next(): Promise<IteratorResult<Data, undefined>>;
+    /** Frees what the lines take in the module's memory, and cancels the stream. */
+    return(): Promise<IteratorResult<Data, undefined>>;
+}
+
 /** The options of `showStream`: those of `feed`, and this one. */
 export interface ShowingOptions extends Options {
     /**
@@ -320,7 +346,7 @@ export interface ShowingOptions extends Options {
     growth?: number;
 }
 
-/** What `showStream` takes: pieces as they come, of any size. */
+/** What `showStream` and `rows` take: pieces as they come, of any size. */
 export type Pieces = ReadableStream<Bytes> | AsyncIterable<Bytes> | Iterable<Bytes>;
 
 /**
@@ -417,6 +443,17 @@ export class Zaxbriar {
      * a call that traps, ends them: `next` then throws an Error.
      */
     rows(jpeg: Bytes, options?: RowsOptions): Rows;
+
+    /**
+     * Gives the lines while the stream arrives: `for await (const line of
+     * zaxbriar.rows(response.body)) {..}`. They and the errors are those of the bytes in one piece.
+     * Of most files each row of MCUs is decoded once, when its bytes are there, which are dropped
+     * then. Files with several scans give all lines after the end of the stream.
+     *
+     * The stream is read to its end. It is cancelled where the lines are left early, or refused by
+     * their header.
+     */
+    rows(stream: Pieces, options?: ArrivingRowsOptions): ArrivingRows;
 
     /**
      * Takes a stream in pieces, and shows at any time the picture of what has arrived. The limits

@@ -61,6 +61,8 @@ export const OPTIONS = [
 const PLANES_OPTIONS = ['scale', 'minWidth', 'minHeight', 'maxPixels', 'maxBytes', 'maxPasses'];
 /* What rows takes, for the same reason. */
 const ROWS_OPTIONS = [...PLANES_OPTIONS, 'colorTransform'];
+/* What it takes with a stream, whose lines have their full size. */
+const ARRIVING_OPTIONS = ['maxPixels', 'maxBytes', 'maxPasses', 'colorTransform'];
 /* What feed takes, which always decodes as far as a stream goes. */
 const FED_OPTIONS = OPTIONS.filter((name) => name !== 'partial');
 /* The options whose values are objects, and the members of these. */
@@ -80,6 +82,7 @@ const NO_DATA = 7;
 const TOO_LARGE = 8;
 const PARTIAL = 9;
 const END = 11;
+const WAITING = 12;
 const CODES = [
     'OK',
     'MALFORMED',
@@ -233,6 +236,16 @@ export function checkValues(options) {
     pixelLimit(options);
 }
 
+/* Whether a value is the bytes of a stream. */
+const isBytes = (value) => ArrayBuffer.isView(value) || BUFFERS.includes(classOf(value));
+
+/* An error after some lines: that of a stream says how many there were. */
+function afterLines(error, lines) {
+    if (!(error instanceof ZaxbriarError)) return error;
+    error.message += `, after ${lines} lines`;
+    return Object.assign(error, { lines });
+}
+
 /* Refuses to go on where the module's memory isn't the one any more that a state is in. */
 function checkThere(isThere) {
     if (!isThere()) throw new Error('the memory of the decoder was given back');
@@ -288,9 +301,7 @@ class Rows {
             return { value, done: false };
         } catch (error) {
             this.return();
-            if (!(error instanceof ZaxbriarError)) throw error;
-            error.message += `, after ${this.#lines} lines`;
-            throw Object.assign(error, { lines: this.#lines });
+            throw afterLines(error, this.#lines);
         }
     }
 
@@ -305,6 +316,9 @@ class Rows {
         return this;
     }
 }
+
+/* By this name a stream that is fed is asked for its lines. */
+const ask = Symbol('ask');
 
 /* A stream that arrives in pieces. `calls` have what is asked of the module; `free` frees what the
  * stream takes in its memory. */
@@ -323,23 +337,23 @@ class Fed {
         return this.#byteLength;
     }
 
-    #ask(name, ...words) {
+    [ask](name, ...words) {
         if (!this.#calls) throw new Error('the stream was freed');
         return this.#calls[name](...words);
     }
 
     feed(piece) {
         const bytes = bytesOf(piece, 'piece');
-        this.#ask('feed', bytes);
+        this[ask]('feed', bytes);
         this.#byteLength += bytes.length;
     }
 
     info() {
-        return this.#ask('info');
+        return this[ask]('info');
     }
 
     show() {
-        return this.#ask('show');
+        return this[ask]('show');
     }
 
     free() {
@@ -373,6 +387,89 @@ function piecesOf(stream) {
     if (typeof stream?.getReader === 'function') return read(stream);
     if (stream?.[Symbol.asyncIterator] ?? stream?.[Symbol.iterator]) return stream;
     throw new TypeError('stream: a ReadableStream, or an iterable of its pieces');
+}
+
+/* The lines of a picture while its stream arrives, as an asynchronous iterator. `begin` begins to
+ * take a stream, at the first line that is asked for. */
+class ArrivingRows {
+    #stream;
+    #given;
+    #hasBegun = false;
+    #picture = null;
+    #lines = 0;
+
+    constructor(stream, begin) {
+        this.#stream = stream;
+        this.#given = this.#rowsOf(piecesOf(stream), begin);
+    }
+
+    get picture() {
+        return this.#picture;
+    }
+
+    get lines() {
+        return this.#lines;
+    }
+
+    next() {
+        this.#hasBegun = true;
+        return this.#given.next();
+    }
+
+    async return(value) {
+        // (a generator that hasn't begun ends without a word to its stream)
+        if (!this.#hasBegun) await this.#stream.cancel?.();
+        this.#hasBegun = true;
+        return this.#given.return(value);
+    }
+
+    [Symbol.asyncIterator]() {
+        return this;
+    }
+
+    async *#rowsOf(pieces, begin) {
+        const fed = begin();
+        let next = 0;
+        try {
+            for await (const piece of pieces) {
+                this.#feed(fed, piece);
+                // (a header of many pieces isn't read for each of them)
+                if (!this.#picture && fed.byteLength < next) continue;
+                next = 1.25 * fed.byteLength;
+                this.#picture ??= fed[ask]('beginRows');
+                if (this.#picture) yield* this.#arrived(fed);
+            }
+            this.#picture ??= fed[ask]('beginRows', true);
+            fed[ask]('endRows');
+            yield* this.#arrived(fed);
+        } finally {
+            fed.free();
+        }
+    }
+
+    #feed(fed, piece) {
+        try {
+            fed.feed(piece);
+        } catch (error) {
+            throw this.#picture ? afterLines(error, this.#lines) : error;
+        }
+    }
+
+    /* The lines that are there now. */
+    *#arrived(fed) {
+        for (let line; (line = this.#nextOf(fed)); ) {
+            this.#lines++;
+            yield line;
+        }
+    }
+
+    #nextOf(fed) {
+        try {
+            return fed[ask]('nextRow');
+        } catch (error) {
+            throw afterLines(error, this.#lines);
+        }
+    }
 }
 
 /* Whether bytes that follow change nothing of a picture. */
@@ -617,6 +714,7 @@ export class Zaxbriar {
     }
 
     rows(jpeg, options = {}) {
+        if (typeof jpeg === 'object' && !isBytes(jpeg)) return this.#arrivingRows(jpeg, options);
         checkNames(options, ROWS_OPTIONS);
         const { allocate, isThere, free } = this.#blocks();
         try {
@@ -631,7 +729,7 @@ export class Zaxbriar {
             const rows = view.getBigUint64(handle, true);
             const read = () => {
                 checkThere(isThere);
-                return this.#nextRow(rows, line, rowBytes, at);
+                return this.#nextRow('rows', rows, line, rowBytes, at);
             };
             const end = () => {
                 if (isThere()) this.#call('zaxbriar_rows_free', rows);
@@ -644,13 +742,20 @@ export class Zaxbriar {
         }
     }
 
-    /* The next line, outside the module's memory; null: there is none, and the stream is whole. The
-     * picture at `at` is told of a refusal. */
-    #nextRow(rows, line, size, at) {
-        const answer = this.#call('zaxbriar_rows_next', rows, BigInt(line), BigInt(size));
-        if (answer === END) return null;
+    /* The lines of a stream, while it arrives. */
+    #arrivingRows(stream, options) {
+        const own = ownOptions(options, ARRIVING_OPTIONS);
+        checkValues(own);
+        return new ArrivingRows(stream, () => this.#fed(own));
+    }
+
+    /* The next line, outside the module's memory, by the calls of `kind`; null: there is none now,
+     * or the stream is whole. The picture at `at` is told of a refusal. */
+    #nextRow(kind, rows, line, size, at) {
+        const answer = this.#call(`zaxbriar_${kind}_next`, rows, BigInt(line), BigInt(size));
+        if (answer === END || answer === WAITING) return null;
         if (answer !== OK) {
-            this.#call('zaxbriar_rows_refusal', rows, BigInt(at));
+            this.#call(`zaxbriar_${kind}_refusal`, rows, BigInt(at));
             throw this.#error(answer, at);
         }
         return this.#bytes(line, size).slice();
@@ -659,18 +764,35 @@ export class Zaxbriar {
     feed(options = {}) {
         const own = ownOptions(options, FED_OPTIONS);
         checkValues(own);
+        return this.#fed(own);
+    }
+
+    /* Begins to take a stream, by options that were checked. */
+    #fed(own) {
         const { allocate, isThere, free } = this.#blocks();
         try {
             const at = allocate(PICTURE_BYTES);
             const fed = this.#beginFed(allocate, at, optionsOf(own, LIMITS));
-            const ask = (call) => (words) => {
+            const ifThere = (call) => (words) => {
                 checkThere(isThere);
                 return call(words);
             };
+            let line = 0;
+            let rowBytes = 0;
+            const beginRows = (isLast) => {
+                const picture = this.#fedInfo(fed, at, own, isLast, 'zaxbriar_fed_rows');
+                if (!picture) return null;
+                ({ rowBytes } = picture);
+                line = allocate(rowBytes);
+                return picture;
+            };
             const calls = {
-                feed: ask((bytes) => this.#feed(fed, bytes)),
-                info: ask(() => this.#fedInfo(fed, at, own)),
-                show: ask(() => this.#fedShow(fed, at, own)),
+                feed: ifThere((bytes) => this.#feed(fed, bytes)),
+                info: ifThere(() => this.#fedInfo(fed, at, own)),
+                show: ifThere(() => this.#fedShow(fed, at, own)),
+                beginRows: ifThere(beginRows),
+                nextRow: ifThere(() => this.#nextRow('fed', fed, line, rowBytes, at)),
+                endRows: ifThere(() => this.#call('zaxbriar_fed_end', fed)),
             };
             const end = () => {
                 if (isThere()) this.#call('zaxbriar_fed_free', fed);
@@ -701,10 +823,10 @@ export class Zaxbriar {
         });
     }
 
-    /* The picture of a stream that is fed; null: its header isn't there yet. */
-    #fedInfo(fed, at, options) {
-        const answer = this.#call('zaxbriar_fed_info', fed, BigInt(at));
-        if (answer === TRUNCATED) return null;
+    /* The picture of a stream that is fed; null: its header isn't there yet, and may come. */
+    #fedInfo(fed, at, options, isLast = false, name = 'zaxbriar_fed_info') {
+        const answer = this.#call(name, fed, BigInt(at));
+        if (answer === TRUNCATED && !isLast) return null;
         this.#check(answer, at);
         return this.#allowed(at, options);
     }

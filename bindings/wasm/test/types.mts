@@ -5,7 +5,8 @@ import type { DecoderOptions } from '../dist/index.mjs';
 import type { DecodingOptions, DecodedPicture, DecodedPlanes } from '../dist/index.mjs';
 import type { Density, Fed, Feature } from '../dist/index.mjs';
 import type { Format, Layout, Options, PartialOptions, PartialPicture } from '../dist/index.mjs';
-import type { Picture, Pieces, Plane, Rows, RowsOptions, Sampling } from '../dist/index.mjs';
+import type { ArrivingRows, Picture, Pieces, Plane, Rows, RowsOptions } from '../dist/index.mjs';
+import type { Sampling } from '../dist/index.mjs';
 import type { ShowingOptions, Size, Source } from '../dist/index.mjs';
 
 // Sources, and the bytes of streams.
@@ -156,6 +157,16 @@ other.rows(streams[0], { upright: true });
 // @ts-expect-error
 for await (const line of other.rows(streams[0])) line.width;
 
+// Lines of a stream that arrives.
+const arriving: ArrivingRows = zaxbriar.rows(new Blob([]).stream(), { maxPasses: 20 });
+for await (const line of arriving) if (line.length > 9) arriving.picture?.rowBytes;
+const arrived: IteratorResult<Uint8Array, undefined> = await arriving.next();
+for await (const line of other.rows([streams[0]], { colorTransform: 'none' })) list.push(line);
+// @ts-expect-error
+arriving.picture.rowBytes;
+// @ts-expect-error
+other.rows([streams[0]], { scale: 2 });
+
 // A stream in pieces, and what there is of it.
 const fed: Fed = zaxbriar.feed({ layout: 'rgba', upright: true, maxPasses: 20 });
 fed.feed(streams[0]);
@@ -222,5 +233,5 @@ zaxbriar.memoryBytes = 0;
 const version: string = zaxbriar.version;
 export { bits, columns, data, described, feature, fetched, file, format, ink, layout, length };
 export { fault, first, inches, known, plain, planes, profile, rows, samples, strict, told };
-export { begun, bounds, complete, elsewhere, fits, list, narrow, next };
+export { arrived, begun, bounds, complete, elsewhere, fits, list, narrow, next };
 export { perhapsKnown, piece, soFar, taken, tiles, version };

@@ -25,7 +25,7 @@ class Examples(unittest.TestCase):
 
     def test_run(self):
         examples = re.findall(r"^```python\n(.*?)^```$", PAGE.read_text(), re.S | re.M)
-        self.assertEqual(len(examples), 11)
+        self.assertEqual(len(examples), 12)
         found = {"cut_data": self.photo[: len(self.photo) // 2]}
         said = io.StringIO()
         with contextlib.redirect_stdout(said):
@@ -39,6 +39,7 @@ class Examples(unittest.TestCase):
         self.assertEqual(found["samples"].shape, (427, 640, 3))
         stored = zaxbriar.decode(self.photo)
         self.assertEqual(Path("samples").read_bytes(), bytes(stored))
+        self.assertEqual(Path("arrived").read_bytes(), bytes(stored))
         self.assertEqual((found["fed"].size, found["shown"]), (len(self.photo), 65536))
         self.assertEqual(found["tile"].shape, (256, 256, 3))
         self.assertEqual(found["small"].shape, (107, 160, 3))

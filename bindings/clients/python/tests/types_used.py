@@ -32,6 +32,10 @@ def sizes(data: bytes, mapped: mmap.mmap, room: bytearray) -> tuple[int, Optiona
         height: int = given.info.height - given.lines
     by_row: zaxbriar.RowsOptions = {"min_width": 100}
     zaxbriar.rows(data, **by_row).close()
+    with zaxbriar.arriving_rows([data, mapped], transform="none") as arriving:
+        lines += [row for row in arriving if arriving.info and arriving.lines < 9]
+    as_it_comes: zaxbriar.ArrivingRowsOptions = {"max_passes": 10}
+    zaxbriar.arriving_rows(iter([room]), **as_it_comes).close()
     with zaxbriar.feed(layout="rgb", upright=True, max_bytes=1 << 20) as fed:
         fed.feed(mapped)
         known: Optional[zaxbriar.Info] = fed.info()
@@ -52,6 +56,8 @@ def misuses(data: bytes) -> None:
     zaxbriar.decode(data, max_pases=3)  # type: ignore[call-arg]
     zaxbriar.rows(data, layout="rgb")  # type: ignore[call-arg]
     zaxbriar.rows("text")  # type: ignore[arg-type]
+    zaxbriar.arriving_rows(data)  # type: ignore[arg-type]
+    zaxbriar.arriving_rows([data], scale=2)  # type: ignore[call-arg]
     zaxbriar.feed(data)  # type: ignore[call-arg]
     zaxbriar.feed(layout="RGB")  # type: ignore[arg-type]
     zaxbriar.feed().feed("text")  # type: ignore[arg-type]

@@ -8,6 +8,7 @@ read where it is, unless there are gaps between its bytes, and mustn't change du
 other threads run. The options are those of the class Options.
 """
 
+from .arriving import ArrivingRows, arriving_rows
 from .by_pieces import Fed, feed
 from .by_rows import Rows, rows
 from .calls import (
@@ -31,11 +32,21 @@ from .errors import (
     TruncatedError,
     UnsupportedError,
 )
-from .options import MAX_PASSES, Layout, Limits, Options, RowsOptions, Transform
+from .options import (
+    MAX_PASSES,
+    ArrivingRowsOptions,
+    Layout,
+    Limits,
+    Options,
+    RowsOptions,
+    Transform,
+)
 from .picture import Info, Partial, Picture, Places, Segment
 
 __version__ = "0.1.0"
 __all__ = [
+    "ArrivingRows",
+    "ArrivingRowsOptions",
     "BadArgumentError",
     "Error",
     "Fed",
@@ -58,6 +69,7 @@ __all__ = [
     "Transform",
     "TruncatedError",
     "UnsupportedError",
+    "arriving_rows",
     "decode",
     "decode_partial",
     "feed",

@@ -38,7 +38,8 @@ NAME = "libzaxbriar.so.0"
     PARTIAL,
     TOO_MANY_PASSES,
     END,
-) = range(12)
+    WAITING,
+) = range(13)
 WHOLE_IMAGE = 16
 
 # The names of the library's numbers, each in its place.
@@ -200,6 +201,10 @@ fed_new = _call("fed_new", _OPTIONS, POINTER(c_void_p))
 fed_feed = _call("fed_feed", c_void_p, *_BYTES)
 fed_info = _call("fed_info", c_void_p, _DESCRIPTION)
 fed_show = _call("fed_show", c_void_p, *_BYTES, _DESCRIPTION)
+fed_rows = _call("fed_rows", c_void_p, _DESCRIPTION)
+fed_next = _call("fed_next", c_void_p, *_BYTES)
+fed_end = _call("fed_end", c_void_p)
+fed_refusal = _call("fed_refusal", c_void_p, _DESCRIPTION)
 fed_free = _call("fed_free", c_void_p, result=None)
 metadata_within = _call("metadata_within", *_BYTES, _OPTIONS, c_int, *_BYTES, POINTER(c_size_t))
 joined_metadata = _call("joined_metadata", *_BYTES, _OPTIONS, c_int, *_BYTES, POINTER(c_size_t))

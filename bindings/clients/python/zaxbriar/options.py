@@ -31,6 +31,16 @@ class Limits(TypedDict, total=False):
     max_passes: int
 
 
+class ArrivingRowsOptions(Limits, total=False):
+    """How to decode rows while their bytes arrive, at full size. The limits are those of the class
+    Limits.
+
+    transform: how the components are to be understood, "of_stream" unless it is given.
+    """
+
+    transform: Transform
+
+
 class RowsOptions(Limits, total=False):
     """How to decode rows one by one: all that doesn't arrange samples. The limits are those of the
     class Limits.
@@ -98,6 +108,7 @@ TUPLES = {
     "within": ("most_width", "most_height"),
 }
 OPTIONS = (*NAMES, *TUPLES, *MOST)
+ARRIVING = ("transform", *LIMITS)
 ROWS = ("scale", "min_width", "min_height", "transform", *LIMITS)
 
 

@@ -1,5 +1,6 @@
 use crate::decoder::PartialPicture;
 use crate::error::{Error, Result};
+use crate::fed_rows::FedRows;
 use crate::info::{Area, ImageInfo, Scale};
 use crate::layout::{Layout, AS_STORED};
 use crate::library::{self, Number, Options, Picture, Pieces, Refusal};
@@ -39,7 +40,10 @@ impl FedSettings {
         }
         let mut options = Options::default();
         options.layout = layout;
-        options.scale = self.scale.map_or(0, |scale| scale as u8);
+        options.scale = match self.scale {
+            None | Some(Scale::Full) => 0,
+            Some(scale) => scale as u8,
+        };
         options.bottom_up = self.bottom_up.into();
         options.upright = self.upright.into();
         options.luma = self.luma.into();
@@ -80,6 +84,8 @@ pub struct FedDecoder<E = u8> {
     pieces: Pieces,
     max_bytes: u64,
     bytes_fed: u64,
+    /// Whether the picture is as it is stored, at full size.
+    is_plain: bool,
     elements: PhantomData<fn() -> E>,
 }
 
@@ -88,6 +94,19 @@ impl FedDecoder {
     /// [`Decoder::decode_partial`](crate::Decoder::decode_partial) returns it.
     pub fn new(settings: &FedSettings) -> Result<FedDecoder> {
         FedDecoder::of(AS_STORED, settings)
+    }
+
+    /// Returns what gives the rows of the picture one by one, from the top, as soon as their bytes
+    /// are there. The header has to be there: until [`info`](FedDecoder::info) has returned it,
+    /// this is an error, `UnexpectedEof`. A scale, and settings that arrange samples, are an
+    /// [`Error::Format`].
+    pub fn into_rows(mut self) -> Result<FedRows> {
+        self.describe().map_err(Error::refused)?;
+        if !self.is_plain {
+            let text = "rows are given as they are stored, of the whole picture, at full size";
+            return Err(Error::Format(text.into()));
+        }
+        FedRows::new(self.pieces)
     }
 
     /// Returns the same that shows the picture in a layout, as
@@ -104,6 +123,7 @@ impl<E: Number> FedDecoder<E> {
             pieces: Pieces::new(&options).map_err(Error::refused)?,
             max_bytes: settings.max_decoding_bytes.unwrap_or(u64::MAX),
             bytes_fed: 0,
+            is_plain: options.is_plain() && options.scale == 0,
             elements: PhantomData,
         })
     }

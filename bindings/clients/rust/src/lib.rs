@@ -18,7 +18,7 @@
 //!
 //! [`Decoder::decode_as`] returns any picture in one of the layouts of the module [`layout`], such
 //! as RGBA or 16 bits a sample, and [`Decoder::rows`] its rows one by one. A [`FedDecoder`] shows
-//! a picture while it arrives.
+//! a picture while it arrives, or gives its rows.
 //!
 //! # What is proved
 //!
@@ -52,6 +52,7 @@ mod color;
 mod decoder;
 mod error;
 mod fed;
+mod fed_rows;
 mod info;
 pub mod layout;
 mod library;
@@ -62,5 +63,7 @@ pub use color::ColorTransform;
 pub use decoder::{Decoder, PartialPicture};
 pub use error::{Error, UnsupportedFeature};
 pub use fed::{FedDecoder, FedSettings};
+pub use fed_rows::FedRows;
 pub use info::{Area, CodingProcess, Density, ImageInfo, PixelFormat, Scale};
+pub use library::Given;
 pub use rows::Rows;

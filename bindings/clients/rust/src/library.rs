@@ -21,6 +21,7 @@ const TOO_LARGE: c_int = 8;
 const PARTIAL: c_int = 9;
 const TOO_MANY_PASSES: c_int = 10;
 const END: c_int = 11;
+const WAITING: c_int = 12;
 
 /// A picture's coding process.
 const LOSSLESS: u8 = 3;
@@ -352,6 +353,14 @@ extern "C" {
         picture: *mut Picture,
     ) -> c_int;
 
+    fn zaxbriar_fed_rows(fed: *mut KeptPieces, picture: *mut Picture) -> c_int;
+
+    fn zaxbriar_fed_next(fed: *mut KeptPieces, line: *mut c_void, line_size: usize) -> c_int;
+
+    fn zaxbriar_fed_end(fed: *mut KeptPieces) -> c_int;
+
+    fn zaxbriar_fed_refusal(fed: *mut KeptPieces, picture: *mut Picture) -> c_int;
+
     fn zaxbriar_fed_free(fed: *mut KeptPieces);
 
     fn zaxbriar_metadata(
@@ -544,6 +553,17 @@ struct KeptPieces {
     unknown: [u8; 0],
 }
 
+/// What there is after a call for the next row of a stream that arrives.
+#[derive(Clone, Copy, Debug, Eq, PartialEq)]
+pub enum Given {
+    /// The row.
+    Row,
+    /// No row, until more bytes are fed, or their end is said.
+    Waiting,
+    /// No row: all were given, and the stream has no fault.
+    End,
+}
+
 /// What the library keeps of a stream that arrives in pieces.
 pub struct Pieces {
     kept: NonNull<KeptPieces>,
@@ -595,6 +615,38 @@ impl Pieces {
             )
         };
         Answer::of_part(answer, &picture)
+    }
+
+    /// Describes the picture by the header, and begins to give its rows.
+    pub fn begin_rows(&mut self) -> Result<Picture, Refusal> {
+        let mut picture = Picture::NONE;
+        // SAFETY: as in `info`.
+        let answer = unsafe { zaxbriar_fed_rows(self.kept.as_ptr(), &mut picture) };
+        refusal_of(answer, &picture).map_or(Ok(picture), Err)
+    }
+
+    /// Writes the next row to the start of `row`, which has room for it, if it is there.
+    pub fn next_row(&mut self, row: &mut [u8]) -> Result<Given, Refusal> {
+        // SAFETY: `kept` is what `new` has got, and `row` is borrowed to be written.
+        let answer =
+            unsafe { zaxbriar_fed_next(self.kept.as_ptr(), row.as_mut_ptr().cast(), row.len()) };
+        match answer {
+            OK => Ok(Given::Row),
+            WAITING => Ok(Given::Waiting),
+            END => Ok(Given::End),
+            _ => {
+                let mut picture = Picture::NONE;
+                // SAFETY: as in `info`.
+                unsafe { zaxbriar_fed_refusal(self.kept.as_ptr(), &mut picture) };
+                Err(refusal_of(answer, &picture).unwrap_or(Refusal::NoMemory))
+            }
+        }
+    }
+
+    /// Says that no more bytes come.
+    pub fn end(&mut self) {
+        // SAFETY: `kept` is what `new` has got.
+        unsafe { zaxbriar_fed_end(self.kept.as_ptr()) };
     }
 }
 
