@@ -1,15 +1,18 @@
 """memory.py: Pillow decodes by the plugin without a warning and right into the image's memory,
-whatever the picture's size, and into memory of another form as well; and it reads a stream whose
-tables stand in a stream of their own.
+whatever the picture's size, and into memory of another form as well; what it decodes line by line
+is as it is at once, of a cut file too; and it reads a stream whose tables stand in a stream of
+their own.
 
-Run it with `-W error`. Prints how much memory a picture of 24 megapixels takes in a process of its
-own, with the plugin and without.
+Run it with `-W error`. Prints how much memory a picture of 24 megapixels, in colour and in grey,
+takes in a process of its own, with the plugin and without.
 """
 
 import io
 import os
 import subprocess
 import sys
+from concurrent.futures import ThreadPoolExecutor
+from itertools import product
 
 import PIL
 import zaxbriar
@@ -83,6 +86,47 @@ def in_place():
                 yield f"{mode} {size}: another picture in lines with gaps"
 
 
+def drafted(stream, scale, is_lenient):
+    """The mode, the size and the pixels that are loaded of a stream at a scale, or the error."""
+    kept, ImageFile.LOAD_TRUNCATED_IMAGES = ImageFile.LOAD_TRUNCATED_IMAGES, is_lenient
+    try:
+        with Image.open(io.BytesIO(stream)) as image:
+            image.draft(image.mode, (image.width // scale, image.height // scale))
+            image.load()
+            return image.mode, image.size, image.tobytes()
+    except OSError as error:
+        return str(error)
+    finally:
+        ImageFile.LOAD_TRUNCATED_IMAGES = kept
+
+
+def by_lines():
+    """The faults of pictures that are decoded line by line."""
+    taken, kept = [], zaxbriar_pillow._by_lines
+
+    def take(*arguments):
+        taken.append(kept(*arguments))
+        return taken[-1]
+
+    for mode, scale in product(("L", "CMYK"), (1, 2, 8)):
+        whole = jpeg_of(mode, (642, 483))
+        for stream, is_lenient in product((whole, whole[: len(whole) // 2]), (False, True)):
+            results = []
+            for call in (take, lambda *_: False):
+                zaxbriar_pillow._by_lines = call
+                results.append(drafted(stream, scale, is_lenient))
+            zaxbriar_pillow._by_lines = kept
+            if taken != [stream is whole] or results[0] != results[1]:
+                yield f"{mode} at 1/{scale}: not line by line, or another result than at once"
+            taken.clear()
+    zaxbriar_pillow._by_lines = take
+    with ThreadPoolExecutor(1) as pool:
+        pool.submit(drafted, whole, 1, False).result()
+    zaxbriar_pillow._by_lines = kept
+    if taken:
+        yield "line by line beside another thread"
+
+
 def is_memory_error(stream):
     """Whether memory that is refused is a MemoryError, also where files may be damaged."""
 
@@ -101,9 +145,16 @@ def is_memory_error(stream):
     return False
 
 
+def memory_with(plugin, stream):
+    """How many MB a process of its own takes to load a picture."""
+    python = os.environ.get("PYTHON", sys.executable)
+    run = [python, "-W", "error", "-c", LOADER.format(plugin)]
+    return int(subprocess.run(run, input=stream, stdout=subprocess.PIPE, check=True).stdout)
+
+
 def main():
     blocks = Image.core.get_block_size()
-    faults = list(in_place())
+    faults = [*in_place(), *by_lines()]
     if Image.core.get_block_size() != blocks:
         faults.append("another block size is left behind")
     stream = jpeg_of("RGB", (99, 66))
@@ -111,20 +162,18 @@ def main():
         faults.append("tables in a stream of their own: another picture")
     if not is_memory_error(stream):
         faults.append("refused memory isn't a MemoryError")
-    resident = []
-    stream = jpeg_of("RGB", (6000, 4000))
-    for plugin in ("import zaxbriar_pillow", ""):
-        python = os.environ.get("PYTHON", sys.executable)
-        run = [python, "-W", "error", "-c", LOADER.format(plugin)]
-        done = subprocess.run(run, input=stream, stdout=subprocess.PIPE, check=True)
-        resident.append(int(done.stdout))
-    own = zaxbriar.read_info(stream).decoding_bytes >> 20
-    if resident[0] > resident[1] + own + 16:
-        faults.append("24 megapixels take more memory than Pillow's own and the library's buffers")
+    resident = {}
+    for mode in ("RGB", "L"):
+        stream = jpeg_of(mode, (6000, 4000))
+        resident[mode] = [memory_with(plugin, stream) for plugin in ("import zaxbriar_pillow", "")]
+        own = zaxbriar.read_info(stream).decoding_bytes >> 20 if mode == "RGB" else 0
+        if resident[mode][0] > resident[mode][1] + own + 16:
+            faults.append(f"{mode}: 24 megapixels take more memory than Pillow's own and {own} MB")
     print(
         f"memory: Pillow {PIL.__version__}: {3 * len(SIZES)} pictures of up to 5.8 megapixels, by a"
-        f" copy and in place; 24 megapixels take {resident[0]} MB, without the plugin"
-        f" {resident[1]}, and the library's own buffers {own}; {len(faults)} faults"
+        " copy and in place; 24 megapixels, with the plugin and without, take "
+        + ", ".join(f"in {mode} {ours} and {own} MB" for mode, (ours, own) in resident.items())
+        + f"; {len(faults)} faults"
     )
     print(*faults, sep="\n", end="\n" if faults else "")
     sys.exit(1 if faults else 0)

@@ -134,6 +134,42 @@ def _decoded(data, is_partial, **options):
     return zaxbriar.decode(data, **options)
 
 
+def _has_lines(told, pixel_bytes):
+    """Whether a picture is decoded line by line: a sequential one that is stored with as many bytes
+    a pixel as the image has. (Others are read to their end before the first line, with as much
+    memory; and to each colour a fourth byte would be added by a loop in Python, which costs more
+    time than the memory is worth.)
+
+    Not beside other threads, which may keep the interpreter's lock for 5 ms after each call."""
+    return (
+        told.components == pixel_bytes
+        and library.PROCESSES[told.process] == "sequential"
+        and threading.active_count() == 1
+    )
+
+
+def _by_lines(stream, memory, options, told):
+    """Decodes line by line right into an image's memory, besides which there are samples of two
+    rows of MCUs, and says whether the stream has no fault. If it has one, the image is blank."""
+    (address, stride), size = memory, told.row_bytes
+    lines = range(address, address + told.height * stride, stride)
+    rows = ctypes.c_void_p()
+    begun = library.rows_new(*stream, ctypes.byref(options), ctypes.byref(rows), None)
+    if begun != library.OK:
+        return False
+    try:
+        is_whole = (
+            all(library.rows_next(rows, line, size) == library.OK for line in lines)
+            and library.rows_next(rows, address, size) == library.END
+        )
+    finally:
+        library.rows_free(rows)
+    if not is_whole:
+        for line in lines:
+            ctypes.memset(line, 0, size)
+    return is_whole
+
+
 class ZaxbriarDecoder(ImageFile.PyDecoder):
     """Pillow's decoder `jpeg`: its arguments are the raw mode, the mode of the colours in the file,
     and a scale."""
@@ -146,19 +182,22 @@ class ZaxbriarDecoder(ImageFile.PyDecoder):
             raise ValueError("invalid extents")
         super().setimage(im, extents)
 
-    def _in_place(self, stream, call, options, layout, pixel_bytes):
+    def _in_place(self, stream, call, options, mode, told):
         """Decodes right into the image, and says whether that was possible."""
         global decoded_in_place
+        _, layout, pixel_bytes, _ = _MODES[mode]
         if self.state.extents() != (0, 0, *self.im.size):
             return False
         memory = _memory_of(self.im, pixel_bytes)
         if memory is None:
             return False
-        address, options.stride = memory
-        options.layout = library.LAYOUTS.index(layout)
-        width, height = self.im.size
-        room = options.stride * (height - 1) + width * pixel_bytes
-        calls.decode_at(call, stream, address, room, options)
+        has_lines = call is library.decode and _has_lines(told, pixel_bytes)
+        if not (has_lines and _by_lines(stream, memory, options, told)):
+            address, options.stride = memory
+            options.layout = library.LAYOUTS.index(layout)
+            width, height = self.im.size
+            room = options.stride * (height - 1) + width * pixel_bytes
+            calls.decode_at(call, stream, address, room, options)
         decoded_in_place += 1
         return True
 
@@ -180,7 +219,7 @@ class ZaxbriarDecoder(ImageFile.PyDecoder):
         mode = self.args[0].partition(";")[0]
         scale = self.args[2] if len(self.args) > 2 else 1
         options = library.Options(scale=scale, max_passes=max_passes)
-        formats, layout, pixel_bytes, packed = _MODES.get(mode, ((), None, None, None))
+        formats, _, _, packed = _MODES.get(mode, ((), None, None, None))
         with calls.stream_of(data) as stream:
             told = calls.describe(stream, options)
             is_plain = (
@@ -190,7 +229,7 @@ class ZaxbriarDecoder(ImageFile.PyDecoder):
                 and self.im.mode == mode
             )
             call = library.decode_partial if is_partial else library.decode
-            if is_plain and self._in_place(stream, call, options, layout, pixel_bytes):
+            if is_plain and self._in_place(stream, call, options, mode, told):
                 pass
             elif is_plain:
                 wanted = {"scale": scale, "layout": packed, "max_passes": max_passes}
