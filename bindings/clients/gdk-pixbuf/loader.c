@@ -13,9 +13,10 @@ enum {
 };
 
 /* A file that is being loaded: the bytes that have come, with how many of them the header is read
- * or the picture shown next, and the size that the program wants, if it was asked. Then the
+ * or the whole picture shown next, and the size that the program wants, if it was asked. Then the
  * picture, how it is decoded, and what shows it while bytes come: how many it was fed, and when it
- * shows it next at the earliest. */
+ * shows it next at the earliest. Of a picture that is shown line by line, the samples of a pixel as
+ * they are stored, otherwise 0, and how many lines there are by now. */
 typedef struct {
     GdkPixbufModuleSizeFunc size_known;
     GdkPixbufModulePreparedFunc prepared;
@@ -30,6 +31,8 @@ typedef struct {
     zaxbriar_fed *fed;
     size_t fed_size;
     gint64 time;
+    uint8_t components;
+    int lines;
 } load;
 
 static gboolean refuse(GError **error, zaxbriar_result answer, const char *text) {
@@ -95,20 +98,30 @@ static void set_number(GdkPixbuf *pixbuf, const char *key, int number) {
     gdk_pixbuf_set_option(pixbuf, key, text);
 }
 
-/* Sets the text of the first comment before the first scan, if there is one by now. */
-static void set_comment(const load *state) {
-    zaxbriar_segment segment;
+/* Finds the first segment of a kind, no later than the first scan, and returns its payload, or a
+ * null pointer if there is none by now. */
+static const uint8_t *find_segment(const load *state, uint8_t marker, size_t *size) {
+    zaxbriar_segment segment = {0};
     size_t at = 0;
-    while (zaxbriar_next_segment(state->jpeg + at, state->size - at, &segment) == ZAXBRIAR_OK &&
-           segment.marker != 0xDA && segment.marker != 0xD9) {
-        if (segment.marker == 0xFE) {
-            char *text = g_strndup((const char *)state->jpeg + at + segment.offset, segment.size);
-            gdk_pixbuf_set_option(state->pixbuf, "comment", text);
-            g_free(text);
-            return;
+    while (segment.marker != 0xDA && segment.marker != 0xD9 &&
+           zaxbriar_next_segment(state->jpeg + at, state->size - at, &segment) == ZAXBRIAR_OK) {
+        if (segment.marker == marker) {
+            *size = segment.size;
+            return state->jpeg + at + segment.offset;
         }
         at += segment.end;
     }
+    return NULL;
+}
+
+/* Sets the text of the first comment before the first scan, if there is one by now. */
+static void set_comment(const load *state) {
+    size_t size;
+    const uint8_t *comment = find_segment(state, 0xFE, &size);
+    if (!comment) return;
+    char *text = g_strndup((const char *)comment, size);
+    gdk_pixbuf_set_option(state->pixbuf, "comment", text);
+    g_free(text);
 }
 
 /* Sets the options that GdkPixbuf's own loader sets. */
@@ -151,6 +164,15 @@ static GdkPixbuf *new_pixbuf(gboolean has_alpha, int width, int height) {
                                     stride, release, NULL);
 }
 
+/* Whether a picture may have lines to show while its bytes come. (Other than sequential ones have
+ * none before their end, and the library gives none at a scale.) */
+static gboolean has_lines(const load *state, const zaxbriar_picture *picture) {
+    gboolean is_known =
+        picture->format == ZAXBRIAR_FORMAT_GREY8 || picture->format == ZAXBRIAR_FORMAT_RGB;
+    return is_known && picture->precision == 8 && picture->sample_bytes == 1 &&
+           picture->process == ZAXBRIAR_SEQUENTIAL && !state->options.scale;
+}
+
 /* Makes the picture that the program gets, and gives it. */
 static gboolean prepare(load *state, GError **error) {
     zaxbriar_picture picture;
@@ -162,6 +184,7 @@ static gboolean prepare(load *state, GError **error) {
     state->pixbuf = new_pixbuf(has_alpha, (int)picture.width, (int)picture.height);
     if (!state->pixbuf) return refuse(error, ZAXBRIAR_NO_MEMORY, "out of memory");
     state->options.stride = (uint64_t)gdk_pixbuf_get_rowstride(state->pixbuf);
+    if (has_lines(state, &picture)) state->components = picture.components;
     set_options(state, &picture);
     if (state->prepared) state->prepared(state->pixbuf, NULL, state->loader);
     state->time = g_get_monotonic_time() + PAUSE;
@@ -175,45 +198,114 @@ static gboolean is_seen(const load *state) {
            gdk_pixbuf_get_height(state->pixbuf) == state->height;
 }
 
-static void update(const load *state) {
-    if (state->updated)
-        state->updated(state->pixbuf, 0, 0, gdk_pixbuf_get_width(state->pixbuf),
-                       gdk_pixbuf_get_height(state->pixbuf), state->loader);
+/* Tells the program of the lines that are new, if there are any. */
+static void update(const load *state, int from, int to) {
+    if (state->updated && from < to)
+        state->updated(state->pixbuf, 0, from, gdk_pixbuf_get_width(state->pixbuf), to - from,
+                       state->loader);
 }
 
-/* Has the bytes that have come shown in the picture. */
-static zaxbriar_result show_part(load *state) {
+/* Has the library take the bytes that it hasn't had, for lines or for the whole picture. */
+static zaxbriar_result feed(load *state) {
+    static const zaxbriar_options as_stored = {.max_passes = MAX_PASSES};
     zaxbriar_result answer = ZAXBRIAR_OK;
-    guint room;
-    guchar *pixels = gdk_pixbuf_get_pixels_with_length(state->pixbuf, &room);
-    if (!state->fed) answer = zaxbriar_fed_new(&state->options, &state->fed);
+    if (!state->fed)
+        answer = zaxbriar_fed_new(state->components ? &as_stored : &state->options, &state->fed);
     if (answer == ZAXBRIAR_OK)
         answer = zaxbriar_fed_feed(state->fed, state->jpeg + state->fed_size,
                                    state->size - state->fed_size);
-    if (answer != ZAXBRIAR_OK) return answer;
-    state->fed_size = state->size;
-    return zaxbriar_fed_show(state->fed, pixels, room, NULL);
+    if (answer == ZAXBRIAR_OK) state->fed_size = state->size;
+    return answer;
 }
 
-/* Shows the picture while its file comes, if it comes so slowly that somebody sees that: each time
- * that there are twice as many bytes, and no sooner than the last time took. */
+static void stop_feeding(load *state) {
+    zaxbriar_fed_free(state->fed);
+    state->fed = NULL;
+    state->fed_size = 0;
+}
+
+/* Has the bytes that have come shown in the picture. */
+static void show_picture(load *state) {
+    guint room;
+    guchar *pixels = gdk_pixbuf_get_pixels_with_length(state->pixbuf, &room);
+    zaxbriar_result answer = feed(state);
+    if (answer == ZAXBRIAR_OK) answer = zaxbriar_fed_show(state->fed, pixels, room, NULL);
+    if (answer == ZAXBRIAR_OK || answer == ZAXBRIAR_PARTIAL)
+        update(state, 0, gdk_pixbuf_get_height(state->pixbuf));
+    state->next = 2 * state->size;
+}
+
+/* Begins with the lines of the picture, once it is known whether its first scan has all of its
+ * components: otherwise there are no lines before the end. What hasn't come yet is grey, as by
+ * show_picture. */
+static void begin_lines(load *state) {
+    size_t size;
+    const uint8_t *scan = find_segment(state, 0xDA, &size);
+    if (!scan) return;
+    if (size > 0 && scan[0] == state->components && feed(state) == ZAXBRIAR_OK &&
+        zaxbriar_fed_rows(state->fed, NULL) == ZAXBRIAR_OK) {
+        gdk_pixbuf_fill(state->pixbuf, 0x808080FF);
+    } else {
+        stop_feeding(state);
+        state->components = 0;
+    }
+}
+
+/* Writes all lines whose bytes have come, and returns why there is no other one. */
+static zaxbriar_result take_lines(load *state) {
+    guchar *pixels = gdk_pixbuf_get_pixels(state->pixbuf);
+    size_t stride = (size_t)gdk_pixbuf_get_rowstride(state->pixbuf);
+    size_t width = (size_t)gdk_pixbuf_get_width(state->pixbuf), size = width * state->components;
+    int last = gdk_pixbuf_get_height(state->pixbuf) - 1;
+    for (;;) {
+        guchar *row = pixels + stride * (size_t)MIN(state->lines, last);
+        /* (grey samples are written to the end of the row: in order, none is overwritten unread) */
+        guchar *line = row + 3 * width - size;
+        zaxbriar_result answer = zaxbriar_fed_next(state->fed, line, size);
+        if (answer != ZAXBRIAR_OK) return answer;
+        for (size_t x = 0; state->components == 1 && x < width; x++)
+            memset(row + 3 * x, line[x], 3);
+        state->lines++;
+    }
+}
+
+/* Takes the lines that are left. Returns whether all are the picture of the file: if it has a
+ * fault, or a late segment that asks for other colours, it has to be decoded anew. */
+static gboolean end_lines(load *state) {
+    return feed(state) == ZAXBRIAR_OK && zaxbriar_fed_end(state->fed) == ZAXBRIAR_OK &&
+           take_lines(state) == ZAXBRIAR_END;
+}
+
+/* Shows the picture while its file comes, if it comes so slowly that somebody sees that, and no
+ * sooner than the last time took: the lines that are new, or the picture each time that there are
+ * twice as many bytes. */
 static void show_if_due(load *state) {
     gint64 begin = g_get_monotonic_time();
-    if (state->size < state->next || begin < state->time || !is_seen(state)) return;
-    zaxbriar_result answer = show_part(state);
-    if (answer == ZAXBRIAR_OK || answer == ZAXBRIAR_PARTIAL) update(state);
+    int shown = state->lines;
+    if (begin < state->time || !is_seen(state)) return;
+    if (state->components && !state->fed) begin_lines(state);
+    if (!state->components) {
+        if (state->size < state->next) return;
+        show_picture(state);
+    } else if (state->fed && feed(state) == ZAXBRIAR_OK) {
+        take_lines(state);
+        update(state, shown, state->lines);
+    }
     gint64 end = g_get_monotonic_time();
-    state->next = 2 * state->size;
     state->time = end + MAX(PAUSE, end - begin);
 }
 
 static gboolean load_pixels(load *state, GError **error) {
-    zaxbriar_fed_free(state->fed);
-    state->fed = NULL;
-    if (!state->pixbuf && !prepare(state, error)) return FALSE;
-    if (!decode(state, error)) return FALSE;
+    int shown = state->lines;
+    gboolean is_whole = state->components && state->fed && end_lines(state);
+    stop_feeding(state);
+    if (!is_whole) {
+        shown = 0;
+        if (!state->pixbuf && !prepare(state, error)) return FALSE;
+        if (!decode(state, error)) return FALSE;
+    }
     set_comment(state);
-    update(state);
+    update(state, shown, gdk_pixbuf_get_height(state->pixbuf));
     return TRUE;
 }
 
