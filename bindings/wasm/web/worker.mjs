@@ -3,7 +3,7 @@
  * says what that means. Where the picture is to be shown it is an ImageBitmap, upright: with
  * `isPartial` beside a fault. Answers with `isEarly` come before it where a file takes long to be
  * read, with the picture so far. After a fault with `isBroken` the page takes another worker. */
-import { Early } from './early.mjs';
+import { reading, showEarly } from './early.mjs';
 import { sentenceOf } from './words.mjs';
 import { ZaxbriarError, load } from './zaxbriar.mjs';
 
@@ -74,30 +74,19 @@ const told = (error) => ({
     featureArgument: error.featureArgument,
 });
 
-/* Tells of the picture that a file has brought by these bytes, if the browser can draw it. */
-function tellEarly(zaxbriar, decoded, bytes) {
-    const { bitmap } = drawn(decoded);
-    if (bitmap) postMessage({ isEarly: true, picture: zaxbriar.readInfo(bytes), bitmap }, [bitmap]);
-}
-
-/* The bytes of a file. */
+/* The bytes of a file, whose picture so far is told if that is to be shown. */
 async function read(zaxbriar, { file, isShown }) {
     if (!isShown) return new Uint8Array(await file.arrayBuffer());
-    const early = new Early(zaxbriar.feed(OPTIONS), (...told) => tellEarly(zaxbriar, ...told));
-    try {
-        const jpeg = new Uint8Array(file.size);
-        const reader = file.stream().getReader();
-        let count = 0;
-        for (;;) {
-            const { value, done } = await reader.read();
-            if (done) return jpeg;
-            jpeg.set(value, count);
-            count += value.length;
-            early.take(jpeg.subarray(0, count));
-        }
-    } finally {
-        early.end();
-    }
+    const jpeg = new Uint8Array(file.size);
+    const readOn = reading(file, jpeg);
+    let picture = null;
+    const tell = (bytes, bitmap) => {
+        picture ??= zaxbriar.readInfo(bytes);
+        postMessage({ isEarly: true, picture, bitmap }, [bitmap]);
+    };
+    await showEarly({ zaxbriar, read: readOn, draw, tell }, zaxbriar.feed(OPTIONS));
+    while (await readOn());
+    return jpeg;
 }
 
 async function answer(request) {
