@@ -282,7 +282,7 @@ fn answers_of(case: &Case<'_>, most: usize) -> Vec<String> {
             ["icc"] => data(decoder.icc_profile().as_deref()),
             ["rest"] => left.get().to_string(),
             ["cuts"] => cuts(&case.stream),
-            ["feed", _] | ["into", _] | ["orientation"] | ["stream_transform"] | ["planes"] => break,
+            ["feed" | "into", _] | ["orientation" | "stream_transform" | "planes"] => break,
             _ => panic!("no such call: {call}"),
         });
     }
